@@ -1,0 +1,5 @@
+pub mod Decide
+pub mod Refusals
+pub mod Search
+pub mod Tables
+pub mod Tests

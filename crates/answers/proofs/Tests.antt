@@ -1,0 +1,39 @@
+-- Laws of Bool tests that several crates' proofs share. Assumes nothing.
+use mathlib.Core.Path.{_≡_, refl, sym, _∙_, subst}
+use mathlib.Core.Bool.{Bool, true, false, not, _&&_, _||_}
+use lib.Dec.{T}
+
+pub and-left : (a b : Bool) → (a && b) ≡ true → a ≡ true
+and-left true b h = refl
+and-left false b h = h
+
+pub and-right : (a b : Bool) → (a && b) ≡ true → b ≡ true
+and-right true b h = h
+and-right false b h = absurd (subst T (sym h) tt)
+
+pub and-both : {a b : Bool} → a ≡ true → b ≡ true → (a && b) ≡ true
+and-both {a} {b} p q = cc
+
+pub and-false-right : (a : Bool) {b : Bool} → b ≡ false → (a && b) ≡ false
+and-false-right true q = q
+and-false-right false q = refl
+
+pub or-left : {a : Bool} (b : Bool) → a ≡ true → (a || b) ≡ true
+or-left {a} b p = cc
+
+pub or-right : (a : Bool) {b : Bool} → b ≡ true → (a || b) ≡ true
+or-right true q = refl
+or-right false q = q
+
+pub or-none : {a b : Bool} → a ≡ false → b ≡ false → (a || b) ≡ false
+or-none {a} {b} p q = cc
+
+pub true-test : {b : Bool} → b ≡ true → T b
+true-test p = subst T (sym p) tt
+
+pub test-true : (b : Bool) → T b → b ≡ true
+test-true true t = refl
+test-true false t = absurd t
+
+pub not-both : {A : Type 0} {b : Bool} → b ≡ true → b ≡ false → A
+not-both {b} p q = absurd (subst T (sym p ∙ q) tt)

@@ -1,0 +1,13 @@
+-- Tests over all numbers below a bound, and the least number that passes a test. Assumes nothing.
+use Prim.Native.Nat.{ℕ, zero, suc}
+use mathlib.Core.Bool.{Bool, true, false, _&&_, cond}
+
+-- the test holds of every number below n
+unfoldable pub allBelow : (ℕ → Bool) → ℕ → Bool
+allBelow test zero = true
+allBelow test (suc n) = allBelow test n && test n
+
+-- the least number below n that passes the test, or d where none does: each lower one that passes takes the place of a higher
+unfoldable pub least : (ℕ → Bool) → ℕ → ℕ → ℕ
+least test zero d = d
+least test (suc n) d = least test n (cond (test n) n d)
