@@ -1,7 +1,9 @@
 -- Laws of Bool tests that several crates' proofs share. Assumes nothing.
-use mathlib.Core.Path.{_≡_, refl, sym, _∙_, subst}
+use mathlib.Core.Path.{_≡_, refl, sym, ap, _∙_, subst}
 use mathlib.Core.Bool.{Bool, true, false, not, _&&_, _||_}
-use lib.Dec.{T}
+use Prim.Native.Nat.{ℕ, _≤_, _<_}
+use lib.Dec.{T, ltb}
+use borrow.Author.Tests.{le-ltb, lt-ltb}
 
 pub and-left : (a b : Bool) → (a && b) ≡ true → a ≡ true
 and-left true b h = refl
@@ -37,3 +39,10 @@ test-true false t = absurd t
 
 pub not-both : {A : Type 0} {b : Bool} → b ≡ true → b ≡ false → A
 not-both {b} p q = absurd (subst T (sym p ∙ q) tt)
+
+-- a negated order test from the order
+pub le-not-ltb : (a b : ℕ) → b ≤ a → not (ltb a b) ≡ true
+le-not-ltb a b h = ap not (le-ltb a b h)
+
+pub lt-not-ltb : (a b : ℕ) → a < b → not (ltb a b) ≡ false
+lt-not-ltb a b h = ap not (lt-ltb a b h)
