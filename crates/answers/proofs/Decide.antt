@@ -65,6 +65,21 @@ pub accepts : {A : Type 0} (answer : A) → decide [] answer ≡ accepted answer
 unfolding decide
 accepts answer = refl
 
+-- a call whose answer is computed from another's, for the same causes
+abbrev pub answered : {A B : Type 0} → (A → B) → Outcome A → Outcome B
+answered f (refused r) = refused r
+answered f (accepted a) = accepted (f a)
+
+pub decide-answered : {A B : Type 0} (f : A → B) (cs : List Cause) (a : A) → decide cs (f a) ≡ answered f (decide cs a)
+unfolding decide
+decide-answered f [] a = refl
+decide-answered f (c ∷ cs) a = go (anyOf (c .conditions)) (decide-answered f cs a)
+  where
+    go : (t : Bool) → decide cs (f a) ≡ answered f (decide cs a)
+        → cond t (refused (c .refusal)) (decide cs (f a)) ≡ answered f (cond t (refused (c .refusal)) (decide cs a))
+    go true e = refl
+    go false e = e
+
 -- ---- for the reader
 
 -- r is the refusal of a cause of the list with a condition that holds

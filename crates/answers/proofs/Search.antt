@@ -1,12 +1,12 @@
 -- Laws of `allBelow` and `least`. Assumes nothing.
 use Prim.Native.Nat.{ℕ, zero, suc, _≤_, _<_}
 use mathlib.Core.Path.{_≡_, refl, sym, ap, _∙_, subst}
-use mathlib.Core.Bool.{Bool, true, false, _&&_, cond}
+use mathlib.Core.Bool.{Bool, true, false, _&&_, _||_, cond}
 use mathlib.Core.Logic.{_⊎_, inl, inr, ⊎-elim}
 use native.Mathlib.Nat.{not-suc-le-zero, le-of-suc-le-suc, eq-or-lt-of-le}
 use native.Mathlib.Omega.{arith}
-use Rattle.answers.specs.Search.{allBelow, least}
-use Rattle.answers.proofs.Tests.{and-left, and-right, and-both, not-both}
+use Rattle.answers.specs.Search.{allBelow, anyBelow, least}
+use Rattle.answers.proofs.Tests.{and-left, and-right, and-both, or-left, or-right, or-none, not-both}
 
 -- k is n, or below it
 last : (k n : ℕ) → k < suc n → (k ≡ n) ⊎ (k < n)
@@ -25,6 +25,17 @@ module _ (test : ℕ → Bool) where
   unfolding allBelow
   all-of zero f = refl
   all-of (suc n) f = and-both (all-of n (λ k h. f k (omega arith))) (f n (omega arith))
+
+  pub any-at : (n k : ℕ) → k < n → test k ≡ true → anyBelow test n ≡ true
+  unfolding anyBelow
+  any-at zero k h t = absurd (not-suc-le-zero h)
+  any-at (suc n) k h t =
+      ⊎-elim (λ q. or-right (anyBelow test n) (subst (λ (m : ℕ). test m ≡ true) q t)) (λ l. or-left (test n) (any-at n k l t)) (last k n h)
+
+  pub any-none : (n : ℕ) → ((k : ℕ) → k < n → test k ≡ false) → anyBelow test n ≡ false
+  unfolding anyBelow
+  any-none zero f = refl
+  any-none (suc n) f = or-none (any-none n (λ k h. f k (omega arith))) (f n (omega arith))
 
   -- where no number below n passes, the default
   pub least-none : (n d : ℕ) → ((k : ℕ) → k < n → test k ≡ false) → least test n d ≡ d

@@ -16,6 +16,10 @@ and-right false b h = absurd (subst T (sym h) tt)
 pub and-both : {a b : Bool} → a ≡ true → b ≡ true → (a && b) ≡ true
 and-both {a} {b} p q = cc
 
+pub and-rest : (a b : Bool) → a ≡ true → (a && b) ≡ false → b ≡ false
+and-rest true b p h = h
+and-rest false b p h = absurd (subst T (sym p) tt)
+
 pub and-false-right : (a : Bool) {b : Bool} → b ≡ false → (a && b) ≡ false
 and-false-right true q = q
 and-false-right false q = refl
@@ -27,6 +31,10 @@ pub or-right : (a : Bool) {b : Bool} → b ≡ true → (a || b) ≡ true
 or-right true q = refl
 or-right false q = q
 
+pub or-rest : (a b : Bool) → a ≡ false → (a || b) ≡ true → b ≡ true
+or-rest true b p h = absurd (subst T p tt)
+or-rest false b p h = h
+
 pub or-none : {a b : Bool} → a ≡ false → b ≡ false → (a || b) ≡ false
 or-none {a} {b} p q = cc
 
@@ -36,6 +44,11 @@ true-test p = subst T (sym p) tt
 pub test-true : (b : Bool) → T b → b ≡ true
 test-true true t = refl
 test-true false t = absurd t
+
+-- what is not true is false
+pub refute : (b : Bool) → (b ≡ true → ⊥) → b ≡ false
+refute true f = absurd (f refl)
+refute false f = refl
 
 pub not-both : {A : Type 0} {b : Bool} → b ≡ true → b ≡ false → A
 not-both {b} p q = absurd (subst T (sym p ∙ q) tt)

@@ -1,11 +1,16 @@
 -- Tests over all numbers below a bound, and the least number that passes a test. Assumes nothing.
 use Prim.Native.Nat.{ℕ, zero, suc}
-use mathlib.Core.Bool.{Bool, true, false, _&&_, cond}
+use mathlib.Core.Bool.{Bool, true, false, _&&_, _||_, cond}
 
 -- the test holds of every number below n
 unfoldable pub allBelow : (ℕ → Bool) → ℕ → Bool
 allBelow test zero = true
 allBelow test (suc n) = allBelow test n && test n
+
+-- the test holds of some number below n
+unfoldable pub anyBelow : (ℕ → Bool) → ℕ → Bool
+anyBelow test zero = false
+anyBelow test (suc n) = anyBelow test n || test n
 
 -- the least number below n that passes the test, or d where none does: each lower one that passes takes the place of a higher
 unfoldable pub least : (ℕ → Bool) → ℕ → ℕ → ℕ

@@ -3,10 +3,11 @@ use Prim.Native.Nat.{ℕ, _≤_, _<_}
 use mathlib.Core.Path.{_≡_, refl, sym, ap, _∙_}
 use mathlib.Core.Bool.{true}
 use native.Mathlib.Omega.{arith}
+use native.Mathlib.Decide.{decLt}
 use borrow.Author.Tests.{le-ltb}
-use Rattle.answers.specs.Outcome.{Outcome, accepted, ascending, ascendingFrom, Cause}
-use Rattle.answers.proofs.Decide.{passes, accepts}
-use Rattle.answers.proofs.Tests.{lt-not-ltb}
+use Rattle.answers.specs.Outcome.{Outcome, Refused, refused, accepted, alone, ascending, ascendingFrom, Cause}
+use Rattle.answers.proofs.Decide.{stops, passes, accepts}
+use Rattle.answers.proofs.Tests.{le-not-ltb, lt-not-ltb}
 use Rattle.clock.specs.declared.Frame.{Frame}
 use Rattle.clock.specs.Clock.{hyperframe, T1, T2, T3, partsOf, numberOf, splitCauses, splitOf, joinCauses, joinOf}
 
@@ -51,6 +52,25 @@ pub split-undoes-join : (t1 t2 t3 : ℕ) → t1 ≤ 2047 → t2 ≤ 25 → t3 �
 split-undoes-join t1 t2 t3 h1 h2 h3 =
     split-accepts _ (number-range t1 t2 t3 h1 h2 h3)
     ∙ ap accepted (cc (counter-1 t1 t2 t3 h1 h2 h3, counter-2 t1 t2 t3 h1 h2 h3, counter-3 t1 t2 t3 h1 h2 h3))
+
+-- ---- what an answer shows
+
+pub split-refuses : (fn : ℕ) → hyperframe ≤ fn → splitOf fn ≡ refused (alone 3)
+split-refuses fn h = stops _ _ _ 0 (le-not-ltb _ _ h)
+
+pub split-parts : (fn : ℕ) (f : Frame) → accepted f ≡ splitOf fn → (fn < hyperframe) × (f ≡ partsOf fn)
+split-parts fn f e = go (decLt fn hyperframe)
+  where
+    go : Dec (fn < hyperframe) → (fn < hyperframe) × (f ≡ partsOf fn)
+    go (yes h) = (h, cc (split-accepts fn h))
+    go (no h) = absurd (let z : _≡_ {A = ℕ} 0 1 = cc (split-refuses fn (omega arith)) in omega arith)
+
+pub split-none : (fn : ℕ) (r : Refused) → refused r ≡ splitOf fn → hyperframe ≤ fn
+split-none fn r e = go (decLt fn hyperframe)
+  where
+    go : Dec (fn < hyperframe) → hyperframe ≤ fn
+    go (yes h) = absurd (let z : _≡_ {A = ℕ} 0 1 = cc (split-accepts fn h) in omega arith)
+    go (no h) = omega arith
 
 -- ---- the causes stand in the order of their numbers
 

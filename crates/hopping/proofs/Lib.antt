@@ -1,0 +1,5 @@
+pub mod Apart
+pub mod Bits
+pub mod Blocks
+pub mod Causes
+pub mod Mai

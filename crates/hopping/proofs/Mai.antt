@@ -1,0 +1,119 @@
+-- The laws of NBIN, RNTABLE, S and MAI. Assumes nothing.
+use Prim.Native.Nat.{ℕ, zero, suc, _+_, _*_, _-_, _/_, _%_, _^_, _≤_, _<_}
+use mathlib.Core.Path.{_≡_, refl, sym, ap, _∙_, subst}
+use mathlib.Core.Bool.{Bool, true, false, cond}
+use mathlib.Core.List.{List, [], _∷_}
+use native.Mathlib.Nat.{one-mul, mod-lt, mod-le}
+use native.Mathlib.Omega.{arith}
+use lib.Bits.{bitXor, xor-lt}
+use lib.Count as Count
+use lib.Dec.{ltb, leb, eqb, lit<}
+use lib.ListN.{getD}
+use lib.Pow.{pow-pos, shl-exact}
+use borrow.Author.Tests.{lt-ltb, le-ltb, ltb-true, ltb-false, leb-true, eqb-true, eq-eqb, ne-eqb}
+use Rattle.answers.specs.Search.{allBelow, least}
+use Rattle.answers.proofs.Search.{all-at, First, first-of, least-first}
+use Rattle.answers.proofs.Tables.{every, at-most}
+use Rattle.clock.specs.declared.Frame.{Frame}
+use Rattle.clock.specs.Clock.{partsOf}
+use Rattle.hopping.specs.Hopping.{rntable, nbin, M, M′, T′, S, maiOf}
+
+-- ---- RNTABLE
+
+-- no entry passes 127: one test over the table
+pub rn-le : (k : ℕ) → getD rntable k 0 ≤ 127
+unfolding rntable every
+rn-le k = at-most 127 rntable refl k
+
+-- HSN xor (T1 mod 64), plus T3, is an entry
+pub index-lt : (hsn t1 t3 : ℕ) → hsn < 64 → t3 ≤ 50 → bitXor hsn (t1 % 64) + t3 < 114
+index-lt hsn t1 t3 h k = omega (arith, xor-lt 6 hsn (t1 % 64) h (mod-lt t1 (lit< tt)))
+
+-- ---- NBIN
+
+-- NBIN bits have room for N, and fewer have not
+module _ (n : ℕ) (h : n < 2 ^ 63) where
+  width : First (λ (k : ℕ). ltb n (2 ^ k)) 64
+  width = first-of (λ (k : ℕ). ltb n (2 ^ k)) 64 63 (lit< tt) (lt-ltb n (2 ^ 63) h)
+
+  width-is : nbin n ≡ width .place
+  unfolding nbin
+  width-is = least-first (λ (k : ℕ). ltb n (2 ^ k)) 64 64 width
+
+  pub nbin-room : n < 2 ^ nbin n
+  nbin-room = subst (λ (k : ℕ). n < 2 ^ k) (sym width-is) (ltb-true _ _ (width .passes))
+
+  pub nbin-least : (k : ℕ) → k < nbin n → 2 ^ k ≤ n
+  nbin-least k l = ltb-false _ _ (width .none k (subst (λ (m : ℕ). k < m) width-is l))
+
+-- for N up to 64, NBIN is what the leading zeros of a 32-bit word leave: one test over the 65 numbers
+pub nbin-leading : (n : ℕ) → n ≤ 64 → 32 - Count.leadingZeros 32 n ≡ nbin n
+unfolding nbin least allBelow Count.leadingZeros
+nbin-leading n h = eqb-true _ _ (all-at (λ (k : ℕ). eqb (32 - Count.leadingZeros 32 k) (nbin k)) 65 refl n (omega arith))
+
+pub nbin-le : (n : ℕ) → n ≤ 64 → nbin n ≤ 7
+unfolding nbin least allBelow
+nbin-le n h = leb-true _ _ (all-at (λ (k : ℕ). leb (nbin k) 7) 65 refl n (omega arith))
+
+-- 1 << NBIN, as the code has it
+abbrev pub roomOf : ℕ → ℕ
+roomOf n = (1 * 2 ^ (32 - Count.leadingZeros 32 n)) % 2 ^ 32
+
+pub room-is : (n : ℕ) → n ≤ 64 → roomOf n ≡ 2 ^ nbin n
+room-is n h =
+    ap (λ (k : ℕ). (1 * 2 ^ k) % 2 ^ 32) (nbin-leading n h)
+    ∙ (shl-exact 1 (nbin n) 32 (lit< tt) (let b = nbin-le n h in omega arith) ∙ one-mul (2 ^ nbin n))
+
+pub room-pos : (n : ℕ) → n ≤ 64 → 0 < roomOf n
+room-pos n h = let e = room-is n h in let p = pow-pos (nbin n) in omega arith
+
+-- ---- S
+
+-- x is what the code read of RNTABLE
+module _ (n hsn : ℕ) (f : Frame) (x : ℕ) (h : n ≤ 64) (e : x ≡ getD rntable (bitXor hsn (f .t1 % 64) + f .t3) 0) where
+  m-is : (f .t2 + x) % roomOf n ≡ M′ n hsn f
+  m-is = ap (λ (y : ℕ). (f .t2 + y) % roomOf n) e ∙ ap (λ (y : ℕ). M hsn f % y) (room-is n h)
+
+  t-is : f .t3 % roomOf n ≡ T′ n f
+  t-is = ap (λ (y : ℕ). f .t3 % y) (room-is n h)
+
+  pub s-below : (f .t2 + x) % roomOf n < n → (f .t2 + x) % roomOf n ≡ S n hsn f
+  unfolding S
+  s-below l =
+      m-is ∙ sym (ap (λ (t : Bool). cond t (M′ n hsn f) ((M′ n hsn f + T′ n f) % n)) (lt-ltb (M′ n hsn f) n (subst (λ (y : ℕ). y < n) m-is l)))
+
+  pub s-above : n ≤ (f .t2 + x) % roomOf n → ((f .t2 + x) % roomOf n + f .t3 % roomOf n) % n ≡ S n hsn f
+  unfolding S
+  s-above l =
+      ap (λ (y : ℕ). (y + f .t3 % roomOf n) % n) m-is
+      ∙ (ap (λ (y : ℕ). (M′ n hsn f + y) % n) t-is
+      ∙ sym (ap (λ (t : Bool). cond t (M′ n hsn f) ((M′ n hsn f + T′ n f) % n)) (le-ltb (M′ n hsn f) n (subst (λ (y : ℕ). n ≤ y) m-is l))))
+
+-- S is below N
+pub s-lt : (n hsn : ℕ) (f : Frame) → 0 < n → S n hsn f < n
+unfolding S
+s-lt n hsn f h = go (ltb (M′ n hsn f) n) refl
+  where
+    go : (t : Bool) → ltb (M′ n hsn f) n ≡ t → cond t (M′ n hsn f) ((M′ n hsn f + T′ n f) % n) < n
+    go true e = ltb-true _ _ e
+    go false e = mod-lt (M′ n hsn f + T′ n f) h
+
+-- ---- MAI
+
+module _ (n hsn maio fn : ℕ) where
+  pub mai-cyclic : hsn ≡ 0 → (fn + maio) % n ≡ maiOf n hsn maio fn
+  unfolding maiOf
+  mai-cyclic e = sym (ap (λ (t : Bool). cond t ((fn + maio) % n) ((S n hsn (partsOf fn) + maio) % n)) (eq-eqb _ _ e))
+
+  pub mai-random : (hsn ≡ 0 → ⊥) → (S n hsn (partsOf fn) + maio) % n ≡ maiOf n hsn maio fn
+  unfolding maiOf
+  mai-random e = sym (ap (λ (t : Bool). cond t ((fn + maio) % n) ((S n hsn (partsOf fn) + maio) % n)) (ne-eqb _ _ e))
+
+  -- MAI is below N
+  pub mai-lt : 0 < n → maiOf n hsn maio fn < n
+  unfolding maiOf
+  mai-lt h = go (eqb hsn 0)
+    where
+      go : (t : Bool) → cond t ((fn + maio) % n) ((S n hsn (partsOf fn) + maio) % n) < n
+      go true = mod-lt (fn + maio) h
+      go false = mod-lt (S n hsn (partsOf fn) + maio) h
