@@ -1,7 +1,7 @@
 // Frequency hopping: document 01, "Hopping (6.2)". The masks are in masks.rt and select.rt, the cell allocation's check in allocation.rt, the sequence in
 // sequence.rt.
-mod allocation;
-mod masks;
+pub mod allocation;
+pub mod masks;
 mod select;
 mod sequence;
 
