@@ -1,0 +1,6 @@
+pub mod Computed
+pub mod Drill
+pub mod OneChannel
+pub mod Repeat
+pub mod Same
+pub mod Stood
