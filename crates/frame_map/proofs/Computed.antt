@@ -4,11 +4,10 @@ use Prim.Native.Nat.{ℕ, zero, suc, _+_, _-_, _*_, _/_, _%_, _<_, _≤_}
 use mathlib.Core.Path.{_≡_, refl, sym, ap, _∙_}
 use mathlib.Core.Bool.{Bool, true, false, _&&_, cond}
 use mathlib.Core.List.{List, [], _∷_}
-use native.Mathlib.Nat.{mod-lt}
 use native.Mathlib.Omega.{arith}
 use lib.Dec.{eqb, ltb}
 use lib.ListN.{getD}
-use borrow.Author.Tests.{ltb-true, eq-eqb, ne-eqb, lt-ltb, le-ltb}
+use borrow.Author.Tests.{eq-eqb, ne-eqb, lt-ltb, le-ltb}
 use Rattle.answers.specs.Search.{allBelow}
 use Rattle.answers.proofs.Search.{all-at}
 use Rattle.answers.proofs.Tables.{every, at-most}
@@ -17,30 +16,26 @@ use Rattle.frame_map.specs.Channels.{Standing}
 use Rattle.frame_map.specs.Rows.{Row, numbered, each, from, standing}
 use Rattle.frame_map.specs.Combinations.{fullRate, halfRate, uncombined, combined, additional, sdcch8}
 use Rattle.frame_map.specs.Entries.{kindAt, unpacked, rachAt, fcchSchAt, uncombinedBlocks, uncombinedBlock, combinedBlocks, combinedBlock}
-use Rattle.frame_map.proofs.Repeat.{repeats, standing-mod}
-use Rattle.frame_map.proofs.Same.{sameAll, all-same}
+use Rattle.frame_map.proofs.Repeat.{repeats, standing-mod, allAgree, every-agree}
+use Rattle.frame_map.proofs.Same.{sameAll}
 
 -- the entries are the rows' in each of the p frames that repeat, for each x below n ..
 unfoldable agrees : (ℕ → ℕ → ℕ) → (ℕ → List Row) → ℕ → ℕ → Bool
-agrees made rows p n =
-    ltb 0 p && allBelow (λ (x : ℕ). repeats p (rows x) && allBelow (λ (f : ℕ). sameAll (unpacked (made x f)) (standing (rows x) f)) p) n
+agrees made rows p n = allBelow (λ (x : ℕ). repeats p (rows x) && allAgree (λ (f : ℕ). unpacked (made x f)) (standing (rows x)) p) n
 
 -- .. and so in every frame
 agreed : (made : ℕ → ℕ → ℕ) (rows : ℕ → List Row) (p n : ℕ) → agrees made rows p n ≡ true
     → (x : ℕ) → x < n → (fn : ℕ) → made x (fn % p) ≡ made x fn → unpacked (made x fn) ≡ standing (rows x) fn
 unfolding agrees
 agreed made rows p n e x h fn q =
-    ap unpacked (sym q)
-    ∙ (all-same _ _ (all-at same p (and-right (repeats p (rows x)) _ w) (fn % p) (mod-lt fn (ltb-true _ _ (and-left (ltb 0 p) _ e))))
-    ∙ standing-mod p (rows x) (and-left (repeats p (rows x)) _ w) fn)
+    every-agree these (standing (rows x)) p (and-right (repeats p (rows x)) _ w) fn (ap unpacked q)
+    (standing-mod p (rows x) (and-left (repeats p (rows x)) _ w) fn)
   where
-    same : ℕ → Bool
-    same f = sameAll (unpacked (made x f)) (standing (rows x) f)
+    these : ℕ → List Standing
+    these f = unpacked (made x f)
 
-    w : (repeats p (rows x) && allBelow same p) ≡ true
-    w =
-        all-at (λ (y : ℕ). repeats p (rows y) && allBelow (λ (f : ℕ). sameAll (unpacked (made y f)) (standing (rows y) f)) p) n
-        (and-right (ltb 0 p) _ e) x h
+    w : (repeats p (rows x) && allAgree these (standing (rows x)) p) ≡ true
+    w = all-at (λ (y : ℕ). repeats p (rows y) && allAgree (λ (f : ℕ). unpacked (made y f)) (standing (rows y)) p) n e x h
 
 -- ---- 1
 

@@ -4,3 +4,4 @@ pub mod OneChannel
 pub mod Repeat
 pub mod Same
 pub mod Stood
+pub mod Words

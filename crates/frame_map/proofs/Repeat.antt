@@ -10,6 +10,7 @@ use Rattle.answers.specs.Search.{allBelow}
 use Rattle.answers.proofs.Search.{all-at}
 use Rattle.answers.proofs.Tests.{and-left, and-right}
 use Rattle.frame_map.specs.Channels.{Standing}
+use Rattle.frame_map.proofs.Same.{sameAll, all-same}
 use Rattle.frame_map.specs.Rows.{Row, stands, told, put, standing}
 
 -- every row's period divides p
@@ -36,3 +37,16 @@ every-frame test p rows e fn =
     let w = and-right (ltb 0 p) (repeats p rows && allBelow (λ (f : ℕ). test (standing rows f)) p) e in
     ap test (sym (standing-mod p rows (and-left (repeats p rows) _ w) fn))
     ∙ all-at (λ (f : ℕ). test (standing rows f)) p (and-right (repeats p rows) _ w) (fn % p) (mod-lt fn (ltb-true _ _ (and-left (ltb 0 p) _ e)))
+
+-- two accounts of what stands in a frame that repeat after p frames and agree in each of them ..
+abbrev pub allAgree : (ℕ → List Standing) → (ℕ → List Standing) → ℕ → Bool
+allAgree these those p = ltb 0 p && allBelow (λ (f : ℕ). sameAll (these f) (those f)) p
+
+-- .. agree in every frame
+pub every-agree : (these those : ℕ → List Standing) (p : ℕ) → allAgree these those p ≡ true
+    → (fn : ℕ) → these (fn % p) ≡ these fn → those (fn % p) ≡ those fn → these fn ≡ those fn
+every-agree these those p e fn a b =
+    sym a
+    ∙ (all-same _ _ (all-at (λ (f : ℕ). sameAll (these f) (those f)) p (and-right (ltb 0 p) _ e) (fn % p)
+    (mod-lt fn (ltb-true _ _ (and-left (ltb 0 p) _ e))))
+    ∙ b)
