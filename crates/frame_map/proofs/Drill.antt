@@ -2,10 +2,10 @@
 use Prim.Native.Nat.{ℕ}
 use mathlib.Core.Path.{_≡_, refl}
 use mathlib.Core.Bool.{true}
-use mathlib.Core.List.{List, [], _∷_, map}
-use Rattle.answers.specs.Outcome.{Outcome, accepted, decide, anyOf, ascending, ascendingFrom}
+use mathlib.Core.List.{[], _∷_, map}
+use Rattle.answers.specs.Outcome.{accepted, decide, anyOf, ascending, ascendingFrom}
 use Rattle.frame_map.specs.declared.Kind.the-variants.{Sacch, Rach}
-use Rattle.frame_map.specs.Channels.{Standing, at}
+use Rattle.frame_map.specs.Channels.{at}
 use Rattle.frame_map.specs.Rows.{numbered, each, from, standing}
 use Rattle.frame_map.specs.Combinations.{fullRate, halfRate, uncombined, combined, additional, sdcch8, combinations, among, rowsAmong}
 use Rattle.frame_map.specs.Map.{mapCauses, mapOf}

@@ -1,3 +1,4 @@
+pub mod AllMaps
 pub mod Computed
 pub mod Drill
 pub mod OneChannel

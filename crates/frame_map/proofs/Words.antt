@@ -1,15 +1,15 @@
 -- The rows against document 01's words, in every frame: what its numbers come to. Assumes nothing.
-use Prim.Native.Nat.{ℕ, zero, suc, _+_, _-_, _*_, _/_, _%_, _<_}
+use Prim.Native.Nat.{ℕ, suc, _+_, _-_, _*_, _/_, _%_, _<_}
 use mathlib.Core.Path.{_≡_, refl, sym, ap, _∙_}
-use mathlib.Core.Bool.{Bool, true, false, not, _&&_, _||_, cond}
+use mathlib.Core.Bool.{Bool, true, not, _&&_, _||_, cond}
 use mathlib.Core.List.{List, [], _∷_, _++_, map}
 use native.Mathlib.Omega.{arith}
-use lib.Dec.{eqb, ltb}
+use lib.Dec.{eqb}
 use Rattle.answers.specs.Search.{allBelow}
 use Rattle.answers.proofs.Search.{all-at}
 use Rattle.answers.proofs.Tests.{and-left, and-right}
 use Rattle.frame_map.specs.declared.Kind.{Kind}
-use Rattle.frame_map.specs.declared.Kind.the-variants.{Tch, Sacch, Sdcch, Fcch, Sch, Bcch, Ccch, Rach}
+use Rattle.frame_map.specs.declared.Kind.the-variants.{Tch, Sacch, Rach}
 use Rattle.frame_map.specs.Channels.{Standing, at, isCommon, kindNumber}
 use Rattle.frame_map.specs.Rows.{Row, numbered, each, from, standing, put}
 use Rattle.frame_map.specs.Combinations.{fullRate, halfRate, uncombined, combined, additional, sdcch8}

@@ -33,5 +33,6 @@ pub record Standing : Type 0 where
   pub block : ℕ
   pub place : ℕ
 
+-- a burst of this kind and subchannel, in this block at this place
 abbrev pub at : Kind → ℕ → ℕ → ℕ → Standing
 at kind s block place = record { kind = kind; subchannel = s; block = block; place = place }

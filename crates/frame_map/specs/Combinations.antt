@@ -1,7 +1,7 @@
 -- The six combinations as rows: document 01, "From frame to logical channel", in its order. s is the subchannel, D downlink (0) and U
 -- uplink (1). Assumes nothing.
 use Prim.Native.Nat.{ℕ, zero, suc, _+_, _-_, _*_, _/_, _%_}
-use mathlib.Core.Bool.{Bool, true, false, _||_, cond}
+use mathlib.Core.Bool.{Bool, false, _||_, cond}
 use mathlib.Core.List.{List, [], _∷_, _++_, map}
 use lib.Dec.{eqb}
 use Rattle.frame_map.specs.declared.Kind.the-variants.{Tch, Sacch, Sdcch, Fcch, Sch, Bcch, Ccch, Rach}

@@ -1,4 +1,4 @@
--- How an entry of the code's tables is read: no part of what is promised. Assumes nothing.
+-- How an entry is read, the number that the code computes for a frame: no part of what is promised. Assumes nothing.
 use Prim.Native.Nat.{ℕ, _+_, _-_, _*_, _/_, _%_}
 use mathlib.Core.Bool.{cond}
 use mathlib.Core.List.{List, [], _∷_}

@@ -1,13 +1,12 @@
 -- The frame map: what stands in a frame, and when the question is refused. Assumes nothing.
 use Prim.Native.Nat.{ℕ}
-use mathlib.Core.Bool.{Bool, not}
+use mathlib.Core.Bool.{not}
 use mathlib.Core.List.{List, [], _∷_}
 use lib.Dec.{ltb}
 use Rattle.answers.specs.Outcome.{Outcome, refused, accepted, Cause, cause, decide}
 use Rattle.answers.specs.Refusals.{refusalOf}
 use Rattle.frame_map.specs.declared.Blocks.{Blocks}
 use Rattle.frame_map.specs.declared.Blocks.the-variants.{One, Two}
-use Rattle.frame_map.specs.declared.Burst.{Burst}
 use Rattle.frame_map.specs.declared.Content.{Content}
 use Rattle.frame_map.specs.declared.Content.the-variants.{Idle, Channel}
 use Rattle.frame_map.specs.declared.Mapped.{Mapped}

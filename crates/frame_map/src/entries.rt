@@ -26,7 +26,7 @@ const S: u32 = 0x1000;
 
 const B: u32 = 0x10;
 
-pub const SECOND: u32 = 0x10_0000;
+pub(crate) const SECOND: u32 = 0x10_0000;
 
 // The 51 frames of combinations 4, 5 and 6 are five rows of ten, and one more: FCCH, SCH and two blocks of four frames in each row.
 // The blocks of 4 and 6, at f = 2, 6, 12, 16, 22, 26, 32, 36, 42 and 46.
@@ -43,7 +43,7 @@ const UNCOMBINED: [u32; 10] = [
     CCCH + 8 * B,
 ];
 
-// The blocks of 5, and then those that stand at f = 42 and 46 of every other 51 frames.
+// The blocks of 5 in the same frames, and then those at f = 42 and 46 in the second half of the 102 frames.
 const COMBINED: [u32; 12] = [
     BCCH,
     CCCH,
@@ -59,7 +59,7 @@ const COMBINED: [u32; 12] = [
     SACCH + 3 * S,
 ];
 
-// 1: SACCH stands 26 frames later in each second timeslot.
+// 1: SACCH stands at h = 12 in an even timeslot and at h = 25 in an odd one, in each pair 26 frames later than in the pair before.
 fn full_rate_entry(tn: u32, number: u32) -> u32
     requires { ⌜ tn < 8 ⌝ }
     ensures { λ r. ⌜ unpacked r ≡ standing (fullRate tn) number ⌝ }
@@ -229,7 +229,7 @@ fn sdcch8_entry(number: u32, direction: u32) -> u32
 }
 
 // Any combination; a number that is none has no rows, and every frame is idle.
-pub fn entry(combination: u32, tn: u32, number: u32, direction: u32) -> u32
+pub(crate) fn entry(combination: u32, tn: u32, number: u32, direction: u32) -> u32
     requires { ⌜ (tn < 8) × ((number < 2715648) × (direction < 2)) ⌝ }
     ensures { λ r. ⌜ unpacked r ≡ standing (rowsOf combination tn direction) number ⌝ }
 {

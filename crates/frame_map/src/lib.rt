@@ -10,6 +10,7 @@ use answers::Refusal;
 use entries::SECOND;
 use entries::entry;
 
+// The logical channels.
 pub enum Kind {
     Tch,
     Sacch,
@@ -39,6 +40,7 @@ pub struct Burst {
     pub blocks: Blocks,
 }
 
+// What a frame carries.
 pub enum Content {
     Idle,
     Channel(Burst),
@@ -49,16 +51,17 @@ pub enum Mapped {
     Refused(Refusal),
 }
 
-// The last frame number, 2,715,647.
+// FN is 0 to 2,715,647.
 const LAST_FRAME: u32 = 2_715_647;
 
+// One of the six combinations.
 fn is_combination(n: u32) -> bool
     ensures { λ r. ⌜ r ≡ isCombination n ⌝ }
 {
     (n == 1) | (n == 2) | (n == 4) | (n == 5) | (n == 6) | (n == 7)
 }
 
-// The kind of an entry's digit.
+// The kind that a digit of an entry stands for.
 fn kind_at(n: u32) -> Kind
     ensures { λ r. ⌜ r ≡ kindAt n ⌝ }
 {
@@ -74,7 +77,7 @@ fn kind_at(n: u32) -> Kind
     }
 }
 
-// What a table's entry stands for.
+// What an entry stands for.
 fn unpack(e: u32) -> Content
     ensures { λ r. ⌜ carried r ≡ unpacked e ⌝ }
 {

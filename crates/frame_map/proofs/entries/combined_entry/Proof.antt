@@ -1,6 +1,5 @@
 -- `combined_entry` meets its contract: one direction or the other. Assumes nothing.
 use native.Mathlib.Omega.{arith}
-use Prim.Native.Nat.{ℕ}
 use mathlib.Core.Path.{_≡_}
 use borrow.Author.Needs.{needs}
 use Rattle.frame_map.proofs.entries.combined_entry.Statement.{statement}
