@@ -1,0 +1,268 @@
+// The C interface, include/tdma.h: plain numbers and slices in, structs of numbers out. `refusal` is 0 for an accepted call, else document
+// 01's number, and then every other number is 0. specs/Numbers.antt says so for each answer.
+use answers::Refusal;
+use clock::Frame;
+use clock::Joined;
+use clock::Prime;
+use clock::Split;
+use frame_map::Blocks;
+use frame_map::Burst;
+use frame_map::Content;
+use frame_map::Kind;
+use frame_map::Mapped;
+use hopping::Hopped;
+use hopping::Positioned;
+ghost use mathlib.Core.Path.{_≡_};
+ghost use Rattle.answers.specs.Outcome.{accepted};
+ghost use Rattle.answers.specs.Refusals.{refusalOf};
+ghost use Rattle.clock.specs.Clock.{splitOf, joinOf};
+ghost use Rattle.hopping.specs.Hopping.{positionOf, hopOf};
+ghost use Rattle.frame_map.specs.Channels.{kindNumber};
+ghost use Rattle.frame_map.specs.Map.{mapOf, inBlocks};
+ghost use Rattle.tdma.specs.Numbers.{splitNumbers, joinNumbers, positionNumbers, hopNumbers, emptyMap, mapNumbers};
+
+// T1, T2, T3, and T3' where `given` is 1.
+#[repr(C)]
+pub struct TdmaSplit {
+    pub refusal: u32,
+    pub t1: u32,
+    pub t2: u32,
+    pub t3: u32,
+    pub given: u32,
+    pub prime: u32,
+}
+
+#[repr(C)]
+pub struct TdmaJoin {
+    pub refusal: u32,
+    pub frame: u32,
+}
+
+#[repr(C)]
+pub struct TdmaPosition {
+    pub refusal: u32,
+    pub position: u32,
+}
+
+#[repr(C)]
+pub struct TdmaHop {
+    pub refusal: u32,
+    pub arfcn: u32,
+}
+
+// The channel, 0 for idle, its subchannel, and as many blocks and places as `blocks` says.
+#[repr(C)]
+pub struct TdmaMap {
+    pub refusal: u32,
+    pub channel: u32,
+    pub subchannel: u32,
+    pub blocks: u32,
+    pub block: u32,
+    pub place: u32,
+    pub block2: u32,
+    pub place2: u32,
+}
+
+// Document 01's number of a refusal.
+fn refusal_number(e: Refusal) -> u32
+    ensures { λ r. ⌜ r ≡ refusalOf e .number ⌝ }
+{
+    match e {
+        Refusal::CellAllocation => 1,
+        Refusal::CellParameter => 2,
+        Refusal::OutOfRange => 3,
+        Refusal::MobileAllocation => 4,
+        Refusal::Maio => 5,
+        Refusal::LineOpen => 6,
+        Refusal::LineClosed => 7,
+        Refusal::CommonChannel => 8,
+        Refusal::Clash { line: _ } => 9,
+        Refusal::NoSubchannel => 10,
+        Refusal::SubchannelHeld => 11,
+        Refusal::NotHolder => 12,
+        Refusal::LineHeld => 13,
+        Refusal::Malformed => 14,
+        Refusal::FixedBit { bit: _ } => 15,
+        Refusal::NoCommonLine => 16,
+    }
+}
+
+// The answer of a frame that was split.
+fn split_parts(f: Frame) -> TdmaSplit
+    ensures { λ r. ⌜ r ≡ splitNumbers (accepted f) ⌝ }
+{
+    let t1 = f.t1;
+    let t2 = f.t2;
+    let t3 = f.t3;
+    match f.prime() {
+        Prime::Given(k) => TdmaSplit {
+            refusal: 0,
+            t1,
+            t2,
+            t3,
+            given: 1,
+            prime: k,
+        },
+        Prime::NotGiven => TdmaSplit {
+            refusal: 0,
+            t1,
+            t2,
+            t3,
+            given: 0,
+            prime: 0,
+        },
+    }
+}
+
+// FN to T1, T2, T3 and T3'.
+#[no_mangle]
+pub extern "C" fn tdma_split(frame: u32) -> TdmaSplit
+    ensures { λ r. ⌜ r ≡ splitNumbers (splitOf frame) ⌝ }
+{
+    match Frame::new(frame) {
+        Split::Parts(f) => split_parts(f),
+        Split::Refused(e) => TdmaSplit {
+            refusal: refusal_number(e),
+            t1: 0,
+            t2: 0,
+            t3: 0,
+            given: 0,
+            prime: 0,
+        },
+    }
+}
+
+// T1, T2, T3 to FN.
+#[no_mangle]
+pub extern "C" fn tdma_join(t1: u32, t2: u32, t3: u32) -> TdmaJoin
+    ensures { λ r. ⌜ r ≡ joinNumbers (joinOf t1 t2 t3) ⌝ }
+{
+    match Frame::join(t1, t2, t3) {
+        Joined::Number(n) => TdmaJoin {
+            refusal: 0,
+            frame: n,
+        },
+        Joined::Refused(e) => TdmaJoin {
+            refusal: refusal_number(e),
+            frame: 0,
+        },
+    }
+}
+
+// The position that a line uses in a frame, in a cell allocation of this length.
+#[no_mangle]
+pub extern "C" fn tdma_position(
+    length: u32,
+    mask: u64,
+    hsn: u32,
+    maio: u32,
+    frame: u32,
+) -> TdmaPosition
+    ensures { λ r. ⌜ r ≡ positionNumbers (positionOf length mask hsn maio frame) ⌝ }
+{
+    match hopping::position(length, mask, hsn, maio, frame) {
+        Positioned::At(p) => TdmaPosition {
+            refusal: 0,
+            position: p,
+        },
+        Positioned::Refused(e) => TdmaPosition {
+            refusal: refusal_number(e),
+            position: 0,
+        },
+    }
+}
+
+// The ARFCN that a line uses in a frame.
+#[no_mangle]
+pub extern "C" fn tdma_hop(ca: &[u16], mask: u64, hsn: u32, maio: u32, frame: u32) -> TdmaHop
+    ensures { λ r. ⌜ r ≡ hopNumbers (hopOf (now (ca .entry)) mask hsn maio frame) ⌝ }
+{
+    match hopping::hop(ca, mask, hsn, maio, frame) {
+        Hopped::Arfcn(a) => TdmaHop {
+            refusal: 0,
+            arfcn: a,
+        },
+        Hopped::Refused(e) => TdmaHop {
+            refusal: refusal_number(e),
+            arfcn: 0,
+        },
+    }
+}
+
+// The number of a logical channel.
+fn kind_number(k: Kind) -> u32
+    ensures { λ r. ⌜ r ≡ kindNumber k ⌝ }
+{
+    match k {
+        Kind::Tch => 1,
+        Kind::Sacch => 2,
+        Kind::Sdcch => 3,
+        Kind::Fcch => 4,
+        Kind::Sch => 5,
+        Kind::Bcch => 6,
+        Kind::Ccch => 7,
+        Kind::Rach => 8,
+    }
+}
+
+// An answer that is all zeros but for the refusal.
+fn map_empty(refusal: u32) -> TdmaMap
+    ensures { λ r. ⌜ r ≡ emptyMap refusal ⌝ }
+{
+    TdmaMap {
+        refusal,
+        channel: 0,
+        subchannel: 0,
+        blocks: 0,
+        block: 0,
+        place: 0,
+        block2: 0,
+        place2: 0,
+    }
+}
+
+// The answer of a frame that has a burst.
+fn map_burst(b: Burst) -> TdmaMap
+    ensures { λ r. ⌜ r ≡ mapNumbers (accepted (inBlocks (b .kind) (b .subchannel) (b .blocks))) ⌝ }
+{
+    let kind = b.kind;
+    let channel = kind_number(kind);
+    let subchannel = b.subchannel;
+    let blocks = b.blocks;
+    match blocks {
+        Blocks::One(p) => TdmaMap {
+            refusal: 0,
+            channel,
+            subchannel,
+            blocks: 1,
+            block: p.block,
+            place: p.place,
+            block2: 0,
+            place2: 0,
+        },
+        Blocks::Two(p, q) => TdmaMap {
+            refusal: 0,
+            channel,
+            subchannel,
+            blocks: 2,
+            block: p.block,
+            place: p.place,
+            block2: q.block,
+            place2: q.place,
+        },
+    }
+}
+
+// What a line of this combination and timeslot has in a frame, downlink (0) or uplink (1).
+#[no_mangle]
+pub extern "C" fn tdma_map(combination: u32, tn: u32, frame: u32, direction: u32) -> TdmaMap
+    ensures { λ r. ⌜ r ≡ mapNumbers (mapOf combination tn frame direction) ⌝ }
+{
+    match frame_map::map(combination, tn, frame, direction) {
+        Mapped::Frame(content) => match content {
+            Content::Idle => map_empty(0),
+            Content::Channel(b) => map_burst(b),
+        },
+        Mapped::Refused(e) => map_empty(refusal_number(e)),
+    }
+}
