@@ -15,7 +15,11 @@ pub struct Counters {
 }
 
 impl Counters {
-    pub const START: Counters = Counters { t1: 0, t2: 0, t3: 0 };
+    pub const START: Counters = Counters {
+        t1: 0,
+        t2: 0,
+        t3: 0,
+    };
 
     /// The counters one frame later. T1 moves on when T2 and T3 return to 0 in the same frame.
     pub fn next(self) -> Counters {
@@ -43,7 +47,10 @@ struct Walk {
 fn walk() -> &'static Walk {
     static WALK: OnceLock<Walk> = OnceLock::new();
     WALK.get_or_init(|| {
-        let mut walk = Walk { counters: Vec::new(), frames: vec![[[u32::MAX; 51]; 26]; 2048] };
+        let mut walk = Walk {
+            counters: Vec::new(),
+            frames: vec![[[u32::MAX; 51]; 26]; 2048],
+        };
         let mut now = Counters::START;
         for frame in 0..HYPERFRAME {
             walk.counters.push(now);
@@ -63,6 +70,10 @@ pub fn split(frame: u32) -> Answer<Counters> {
 
 /// The frame that has these counters.
 pub fn join(t1: u32, t2: u32, t3: u32) -> Answer<u32> {
-    refuse(&[(MALFORMED, t1 > 2047), (MALFORMED, t2 > 25), (MALFORMED, t3 > 50)])?;
+    refuse(&[
+        (MALFORMED, t1 > 2047),
+        (MALFORMED, t2 > 25),
+        (MALFORMED, t3 > 50),
+    ])?;
     Ok(walk().frames[t1 as usize][t2 as usize][t3 as usize])
 }

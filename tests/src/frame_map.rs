@@ -42,9 +42,16 @@ impl Table {
             if burst.blocks.is_empty() {
                 (burst.channel, burst.subchannel) = (channel, s);
             }
-            assert_eq!((burst.channel, burst.subchannel), (channel, s), "two channels in frame {at}");
+            assert_eq!(
+                (burst.channel, burst.subchannel),
+                (channel, s),
+                "two channels in frame {at}"
+            );
             burst.blocks.push((block, place));
-            assert!(burst.blocks.len() == 1 || channel == Tch, "two blocks in frame {at}");
+            assert!(
+                burst.blocks.len() == 1 || channel == Tch,
+                "two blocks in frame {at}"
+            );
         }
     }
 
@@ -74,7 +81,12 @@ impl Table {
     fn half_rate(&mut self, tn: u32) {
         let traffic: Vec<u32> = (0..=11).chain(13..=24).collect();
         for s in 0..2 {
-            let own: Vec<u32> = traffic.iter().skip(s as usize).step_by(2).copied().collect();
+            let own: Vec<u32> = traffic
+                .iter()
+                .skip(s as usize)
+                .step_by(2)
+                .copied()
+                .collect();
             for place in 0..4 {
                 for block in 0..6 {
                     let frame = own[(2 * block + place) % 12];
@@ -97,7 +109,11 @@ impl Table {
     /// BCCH, and as many CCCH blocks as there are.
     fn broadcast_and_common(&mut self, blocks: usize) {
         self.four(51, 2, Bcch, 0, 0);
-        for (block, first) in [6, 12, 16, 22, 26, 32, 36, 42, 46].into_iter().take(blocks).enumerate() {
+        for (block, first) in [6, 12, 16, 22, 26, 32, 36, 42, 46]
+            .into_iter()
+            .take(blocks)
+            .enumerate()
+        {
             self.four(51, first, Ccch, 0, block as u32);
         }
     }
@@ -117,7 +133,11 @@ impl Table {
     }
 
     fn of(combination: u32, tn: u32, uplink: bool) -> Table {
-        let idle = Burst { channel: Idle, subchannel: 0, blocks: Vec::new() };
+        let idle = Burst {
+            channel: Idle,
+            subchannel: 0,
+            blocks: Vec::new(),
+        };
         let mut table = Table(vec![idle; FRAMES as usize]);
         let later = if uplink { 15 } else { 0 };
         match (combination, uplink) {

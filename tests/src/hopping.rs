@@ -76,9 +76,10 @@ fn mobile_allocation_index(n: u32, hsn: u32, maio: u32, frame: u32, now: Counter
 pub fn position(length: u32, mask: u64, hsn: u32, maio: u32, frame: u32) -> Answer<u32> {
     let list = positions(mask);
     let n = list.len() as u32;
+    let above = list.iter().any(|&position| position >= length);
     refuse(&[
         (MAIO, maio >= n),
-        (MOBILE_ALLOCATION, list.last().map_or(true, |&highest| highest >= length)),
+        (MOBILE_ALLOCATION, list.is_empty() || above),
         (OUT_OF_RANGE, hsn > 63 || split(frame).is_err()),
     ])?;
     let mai = mobile_allocation_index(n, hsn, maio, frame, split(frame)?);

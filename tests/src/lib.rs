@@ -23,6 +23,10 @@ pub const MALFORMED: u32 = 14;
 
 /// Refuses with the lowest number whose condition holds, in whatever order they are listed.
 pub fn refuse(causes: &[(u32, bool)]) -> Answer<()> {
-    let lowest = causes.iter().filter(|(_, holds)| *holds).map(|(number, _)| *number).min();
+    let lowest = causes
+        .iter()
+        .filter(|(_, holds)| *holds)
+        .map(|(number, _)| *number)
+        .min();
     lowest.map_or(Ok(()), Err)
 }

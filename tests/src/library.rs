@@ -62,7 +62,10 @@ pub fn map(combination: u32, tn: u32, frame: u32, direction: u32) -> MapAnswer {
 impl From<Answer<Counters>> for SplitAnswer {
     fn from(answer: Answer<Counters>) -> Self {
         match answer {
-            Err(refusal) => SplitAnswer { refusal, ..Default::default() },
+            Err(refusal) => SplitAnswer {
+                refusal,
+                ..Default::default()
+            },
             Ok(now) => SplitAnswer {
                 refusal: 0,
                 t1: now.t1.into(),
@@ -99,7 +102,12 @@ impl From<Answer<u32>> for HopAnswer {
 impl From<Answer<&Burst>> for MapAnswer {
     fn from(answer: Answer<&Burst>) -> Self {
         let burst = match answer {
-            Err(refusal) => return MapAnswer { refusal, ..Default::default() },
+            Err(refusal) => {
+                return MapAnswer {
+                    refusal,
+                    ..Default::default()
+                }
+            }
             Ok(burst) => burst,
         };
         let at = |i: usize| burst.blocks.get(i).copied().unwrap_or((0, 0));

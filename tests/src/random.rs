@@ -15,7 +15,7 @@ impl Random {
 
     /// A number below `bound`.
     pub fn below(&mut self, bound: u32) -> u32 {
-        ((self.word() >> 32) * u64::from(bound) >> 32) as u32
+        (((self.word() >> 32) * u64::from(bound)) >> 32) as u32
     }
 
     /// True once in `times`.
@@ -40,12 +40,18 @@ impl Random {
 
     /// A mask with `ones` ones below `length`.
     pub fn mask(&mut self, ones: u32, length: u32) -> u64 {
-        self.choose(ones, length).into_iter().map(|position| 1 << position).sum()
+        self.choose(ones, length)
+            .into_iter()
+            .map(|position| 1 << position)
+            .sum()
     }
 
     /// A cell allocation of `length` entries.
     pub fn cell_allocation(&mut self, length: u32) -> Vec<u16> {
-        self.choose(length, 1024).into_iter().map(|arfcn| arfcn as u16).collect()
+        self.choose(length, 1024)
+            .into_iter()
+            .map(|arfcn| arfcn as u16)
+            .collect()
     }
 
     /// A frame: one in four near the end of the hyperframe.

@@ -25,14 +25,24 @@ fn hopping() {
         (15, 1, 0, 3, 30),
     ];
     for (mask, hsn, maio, frame, arfcn) in rows {
-        assert_eq!(hop(&CA, mask, hsn, maio, frame), HopAnswer { refusal: 0, arfcn });
+        assert_eq!(
+            hop(&CA, mask, hsn, maio, frame),
+            HopAnswer { refusal: 0, arfcn }
+        );
     }
 }
 
 /// A burst that belongs to block 0 or to the one named.
 fn burst(channel: Channel, subchannel: u32, block: u32, place: u32) -> MapAnswer {
     let channel = channel as u32;
-    MapAnswer { channel, subchannel, blocks: 1, block, place, ..Default::default() }
+    MapAnswer {
+        channel,
+        subchannel,
+        blocks: 1,
+        block,
+        place,
+        ..Default::default()
+    }
 }
 
 #[test]

@@ -28,7 +28,10 @@ fn every_combination_timeslot_and_direction_over_all_periods() {
             }
         }
     }
-    assert!(seen.iter().all(|&count| count > 0), "a channel never stood: {seen:?}");
+    assert!(
+        seen.iter().all(|&count| count > 0),
+        "a channel never stood: {seen:?}"
+    );
 }
 
 #[test]
@@ -36,24 +39,39 @@ fn frames_of_the_whole_hyperframe() {
     let mut random = Random(1);
     for _ in 0..4_000_000 {
         let combination = random.one_of(&COMBINATIONS);
-        compare(combination, random.below(8), random.frame(), random.below(2));
+        compare(
+            combination,
+            random.below(8),
+            random.frame(),
+            random.below(2),
+        );
     }
 }
 
 #[test]
 fn no_other_combination_is_known() {
-    let refused = MapAnswer { refusal: OUT_OF_RANGE, ..Default::default() };
+    let refused = MapAnswer {
+        refusal: OUT_OF_RANGE,
+        ..Default::default()
+    };
     for combination in (0..=300).chain([65_537, 1 << 31, u32::MAX - 1, u32::MAX]) {
         for frame in [0, 1, 12, 51, HYPERFRAME - 1] {
             let known = [1, 2, 4, 5, 6, 7].contains(&combination);
-            assert_eq!(compare(combination, 0, frame, 0) != refused, known, "{combination}");
+            assert_eq!(
+                compare(combination, 0, frame, 0) != refused,
+                known,
+                "{combination}"
+            );
         }
     }
 }
 
 #[test]
 fn what_is_out_of_range_is_refused() {
-    let refused = MapAnswer { refusal: OUT_OF_RANGE, ..Default::default() };
+    let refused = MapAnswer {
+        refusal: OUT_OF_RANGE,
+        ..Default::default()
+    };
     let large = [1 << 8, 1 << 16, 1 << 31, u32::MAX];
     for combination in COMBINATIONS.into_iter().chain([0, 3, 8]).chain(large) {
         for tn in [0, 5, 7, 8, 9].into_iter().chain(large) {

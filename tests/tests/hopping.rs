@@ -19,16 +19,32 @@ struct Case {
 impl Case {
     /// Compares hop, and position with CA's length. Gives hop's refusal.
     fn compare(&self) -> u32 {
-        let Case { ca, mask, hsn, maio, frame } = self;
+        let Case {
+            ca,
+            mask,
+            hsn,
+            maio,
+            frame,
+        } = self;
         let answer = library::hop(ca, *mask, *hsn, *maio, *frame);
-        assert_eq!(answer, HopAnswer::from(hop(ca, *mask, *hsn, *maio, *frame)), "{self:?}");
+        assert_eq!(
+            answer,
+            HopAnswer::from(hop(ca, *mask, *hsn, *maio, *frame)),
+            "{self:?}"
+        );
         self.compare_position(ca.len() as u32);
         answer.refusal
     }
 
     /// Compares position alone. Gives its refusal.
     fn compare_position(&self, length: u32) -> u32 {
-        let Case { mask, hsn, maio, frame, .. } = *self;
+        let Case {
+            mask,
+            hsn,
+            maio,
+            frame,
+            ..
+        } = *self;
         let answer = library::position(length, mask, hsn, maio, frame);
         let second = PositionAnswer::from(position(length, mask, hsn, maio, frame));
         assert_eq!(answer, second, "length {length}, {self:?}");
@@ -41,16 +57,25 @@ impl Case {
         let conditions = [
             (1, !is_cell_allocation(&self.ca)),
             (3, self.hsn > 63 || self.frame >= HYPERFRAME),
-            (4, list.is_empty() || list.iter().any(|&at| at as usize >= self.ca.len())),
+            (
+                4,
+                list.is_empty() || list.iter().any(|&at| at as usize >= self.ca.len()),
+            ),
             (5, self.maio as usize >= list.len()),
         ];
-        conditions.into_iter().filter(|(_, holds)| *holds).map(|(number, _)| number).collect()
+        conditions
+            .into_iter()
+            .filter(|(_, holds)| *holds)
+            .map(|(number, _)| number)
+            .collect()
     }
 }
 
 /// Some cell allocations of each length, by length from 1.
 fn cell_allocations(random: &mut Random) -> Vec<Vec<Vec<u16>>> {
-    (1..=64).map(|length| (0..8).map(|_| random.cell_allocation(length)).collect()).collect()
+    (1..=64)
+        .map(|length| (0..8).map(|_| random.cell_allocation(length)).collect())
+        .collect()
 }
 
 /// A case with nothing wrong in it: N below 65 and a length from N on.
@@ -61,7 +86,11 @@ fn right(random: &mut Random, allocations: &[Vec<Vec<u16>>]) -> Case {
     Case {
         ca: ca.clone(),
         mask: random.mask(n, length),
-        hsn: if random.once_in(8) { 0 } else { random.below(64) },
+        hsn: if random.once_in(8) {
+            0
+        } else {
+            random.below(64)
+        },
         maio: random.below(n),
         frame: random.frame(),
     }
@@ -104,9 +133,20 @@ fn lines_of_every_n() {
         assert_eq!(case.compare(), 0, "{case:?}");
         touched.note(&case);
     }
-    assert!(touched.lines[1..].iter().all(|hsn| *hsn == [true; 2]), "an N or HSN 0 left out");
-    assert!(touched.addresses.iter().all(|&read| read), "an entry of RNTABLE left out");
-    assert!(touched.branches[1..].iter().all(|taken| *taken == [true; 2]), "a branch left out");
+    assert!(
+        touched.lines[1..].iter().all(|hsn| *hsn == [true; 2]),
+        "an N or HSN 0 left out"
+    );
+    assert!(
+        touched.addresses.iter().all(|&read| read),
+        "an entry of RNTABLE left out"
+    );
+    assert!(
+        touched.branches[1..]
+            .iter()
+            .all(|taken| *taken == [true; 2]),
+        "a branch left out"
+    );
 }
 
 /// Spoils each value of a case with one chance in two, in one of several ways.
@@ -146,7 +186,11 @@ fn of_several_faults_the_lowest_is_told() {
         let mut case = right(&mut random, &allocations);
         spoil(&mut random, &mut case);
         let causes = case.causes();
-        assert_eq!(case.compare(), causes.first().copied().unwrap_or(0), "{case:?}");
+        assert_eq!(
+            case.compare(),
+            causes.first().copied().unwrap_or(0),
+            "{case:?}"
+        );
         seen.insert(causes);
     }
     assert_eq!(seen.len(), 16, "a set of faults left out: {seen:?}");
@@ -155,7 +199,13 @@ fn of_several_faults_the_lowest_is_told() {
 #[test]
 fn odd_cell_allocations_are_refused() {
     let refused = |ca: &[u16]| {
-        let case = Case { ca: ca.to_vec(), mask: 1, hsn: 0, maio: 0, frame: 0 };
+        let case = Case {
+            ca: ca.to_vec(),
+            mask: 1,
+            hsn: 0,
+            maio: 0,
+            frame: 0,
+        };
         assert_eq!(case.compare(), CELL_ALLOCATION, "{ca:?}");
     };
     refused(&[]);
@@ -164,7 +214,17 @@ fn odd_cell_allocations_are_refused() {
     }
     for length in 1..=64 {
         let right: Vec<u16> = (0..length).map(|i| 16 * i + 15).collect();
-        assert_eq!(Case { ca: right.clone(), mask: 1, hsn: 0, maio: 0, frame: 0 }.compare(), 0);
+        assert_eq!(
+            Case {
+                ca: right.clone(),
+                mask: 1,
+                hsn: 0,
+                maio: 0,
+                frame: 0
+            }
+            .compare(),
+            0
+        );
         for at in 0..length as usize {
             for large in [1024, 1025, 4096, 32_768, u16::MAX] {
                 let mut ca = right.clone();
@@ -185,7 +245,13 @@ fn odd_cell_allocations_are_refused() {
 
 #[test]
 fn every_value_at_its_largest() {
-    let right = Case { ca: vec![10, 20, 30, 40], mask: 15, hsn: 1, maio: 0, frame: 3 };
+    let right = Case {
+        ca: vec![10, 20, 30, 40],
+        mask: 15,
+        hsn: 1,
+        maio: 0,
+        frame: 3,
+    };
     let long: Vec<u16> = vec![u16::MAX; 65_536];
     for faults in 0..32 {
         let mut case = right.clone();
@@ -206,7 +272,11 @@ fn every_value_at_its_largest() {
             case.frame = u32::MAX;
         }
         let refusal = case.compare();
-        assert_eq!(refusal, case.causes().first().copied().unwrap_or(0), "{case:?}");
+        assert_eq!(
+            refusal,
+            case.causes().first().copied().unwrap_or(0),
+            "{case:?}"
+        );
         assert_eq!(refusal == 0, faults == 0, "{case:?}");
     }
 }
@@ -223,10 +293,30 @@ fn position_takes_every_length() {
         if random.once_in(8) {
             frame = random.one_of(&[HYPERFRAME, u32::MAX]);
         }
-        let mask = if random.once_in(16) { 0 } else { random.mask(n, 64) };
+        let mask = if random.once_in(16) {
+            0
+        } else {
+            random.mask(n, 64)
+        };
         let maio = random.below(n + 2);
-        let case = Case { ca: Vec::new(), mask, hsn, maio, frame };
-        for length in [random.below(65), 63, 64, 65, 127, 128, 256, 1 << 31, u32::MAX] {
+        let case = Case {
+            ca: Vec::new(),
+            mask,
+            hsn,
+            maio,
+            frame,
+        };
+        for length in [
+            random.below(65),
+            63,
+            64,
+            65,
+            127,
+            128,
+            256,
+            1 << 31,
+            u32::MAX,
+        ] {
             seen.insert(case.compare_position(length));
         }
         assert_ne!(case.compare_position(0), 0);

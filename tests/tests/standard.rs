@@ -38,7 +38,10 @@ impl Line {
     fn place(self, frame: u32, channel: Channel, s: u32, block: u32, blocks: u32) -> Option<u32> {
         let told = library::map(self.combination, self.tn, frame, self.direction);
         assert_eq!(told.refusal, 0, "{self:?}, FN {frame}");
-        let parts = [(told.block, told.place), (told.second_block, told.second_place)];
+        let parts = [
+            (told.block, told.place),
+            (told.second_block, told.second_place),
+        ];
         let mut parts = parts.iter().take(told.blocks as usize);
         let part = parts.find(|part| part.0 % blocks == block)?;
         (told.channel == channel as u32 && told.subchannel == s).then_some(part.1)
@@ -51,7 +54,10 @@ impl Line {
             let place = frames.iter().position(|&printed| printed == frame % length);
             let told = self.place(frame, channel, s, block, blocks);
             let place = place.map(|place| place as u32);
-            assert_eq!(told, place, "{self:?}, {channel:?} {s}, block {block}, FN {frame}");
+            assert_eq!(
+                told, place,
+                "{self:?}, {channel:?} {s}, block {block}, FN {frame}"
+            );
         }
     }
 
@@ -91,15 +97,22 @@ fn the_table_that_the_library_hops_by() {
             }
         }
         let entry = RNTABLE[at as usize / 10][at as usize % 10];
-        let expected = if at == 0 { vec![entry, entry + 64] } else { vec![entry] };
+        let expected = if at == 0 {
+            vec![entry, entry + 64]
+        } else {
+            vec![entry]
+        };
         assert_eq!(possible, expected, "address {at}");
     }
 }
 
 #[test]
 fn full_rate_traffic_and_its_sacch() {
-    let blocks: [&[u32]; 3] =
-        [&[0, 1, 2, 3, 4, 5, 6, 7], &[4, 5, 6, 7, 8, 9, 10, 11], &[8, 9, 10, 11, 0, 1, 2, 3]];
+    let blocks: [&[u32]; 3] = [
+        &[0, 1, 2, 3, 4, 5, 6, 7],
+        &[4, 5, 6, 7, 8, 9, 10, 11],
+        &[8, 9, 10, 11, 0, 1, 2, 3],
+    ];
     let sacch = [
         [12, 38, 64, 90],
         [25, 51, 77, 103],
@@ -112,7 +125,11 @@ fn full_rate_traffic_and_its_sacch() {
     ];
     for tn in 0..8 {
         for direction in [DOWNLINK, UPLINK] {
-            let line = Line { combination: 1, tn, direction };
+            let line = Line {
+                combination: 1,
+                tn,
+                direction,
+            };
             for (block, frames) in blocks.iter().enumerate() {
                 line.row(Tch, 0, block as u32, 3, 13, frames);
             }
@@ -136,10 +153,14 @@ fn half_rate_traffic_and_its_sacch() {
     ];
     for tn in 0..8 {
         for direction in [DOWNLINK, UPLINK] {
-            let line = Line { combination: 2, tn, direction };
+            let line = Line {
+                combination: 2,
+                tn,
+                direction,
+            };
             for s in 0..2 {
-                for block in 0..2 {
-                    line.row(Tch, s as u32, block as u32, 3, 13, &blocks[s][block]);
+                for (block, frames) in blocks[s].iter().enumerate() {
+                    line.row(Tch, s as u32, block as u32, 3, 13, frames);
                 }
                 line.row(Sacch, s as u32, 0, 1, 104, &sacch[tn as usize][s]);
             }
@@ -150,17 +171,36 @@ fn half_rate_traffic_and_its_sacch() {
 #[test]
 fn broadcast_and_common_channels() {
     let common = [
-        (6, 9), (12, 15), (16, 19), (22, 25), (26, 29), (32, 35), (36, 39), (42, 45), (46, 49),
+        (6, 9),
+        (12, 15),
+        (16, 19),
+        (22, 25),
+        (26, 29),
+        (32, 35),
+        (36, 39),
+        (42, 45),
+        (46, 49),
     ];
     for (combination, tn, blocks) in [(4, 0, 9), (5, 0, 3), (6, 2, 9), (6, 4, 9), (6, 6, 9)] {
-        let line = Line { combination, tn, direction: DOWNLINK };
+        let line = Line {
+            combination,
+            tn,
+            direction: DOWNLINK,
+        };
         line.run(Bcch, 0, ONLY, 51, (2, 5));
         for block in 0..blocks {
             line.run(Ccch, 0, (block, blocks), 51, common[block as usize]);
         }
         if combination != 6 {
             for block in 0..5 {
-                line.row(Fcch, 0, block, 5, 51, &[[0, 10, 20, 30, 40][block as usize]]);
+                line.row(
+                    Fcch,
+                    0,
+                    block,
+                    5,
+                    51,
+                    &[[0, 10, 20, 30, 40][block as usize]],
+                );
                 line.row(Sch, 0, block, 5, 51, &[[1, 11, 21, 31, 41][block as usize]]);
             }
         }
@@ -171,14 +211,22 @@ fn broadcast_and_common_channels() {
 fn random_access() {
     for (combination, tn) in [(4, 0), (6, 2), (6, 4), (6, 6)] {
         for block in 0..=50 {
-            let line = Line { combination, tn, direction: UPLINK };
+            let line = Line {
+                combination,
+                tn,
+                direction: UPLINK,
+            };
             line.row(Rach, 0, block, 51, 51, &[block]);
         }
     }
     // Table 5 names the blocks of a combined channel by their frames.
     let combined = [4, 5].into_iter().chain(14..=36).chain([45, 46]);
     for (block, frame) in combined.enumerate() {
-        let line = Line { combination: 5, tn: 0, direction: UPLINK };
+        let line = Line {
+            combination: 5,
+            tn: 0,
+            direction: UPLINK,
+        };
         line.row(Rach, 0, block as u32, 27, 51, &[frame]);
     }
 }
@@ -186,7 +234,11 @@ fn random_access() {
 /// Checks SDCCH and SACCH of a combination: for each subchannel the downlink and the uplink block.
 fn dedicated(combination: u32, tn: u32, sdcch: &[[(u32, u32); 2]], sacch: &[[(u32, u32); 2]]) {
     for direction in [DOWNLINK, UPLINK] {
-        let line = Line { combination, tn, direction };
+        let line = Line {
+            combination,
+            tn,
+            direction,
+        };
         for s in 0..sdcch.len() {
             line.run(Sdcch, s as u32, ONLY, 51, sdcch[s][direction as usize]);
             line.run(Sacch, s as u32, ONLY, 102, sacch[s][direction as usize]);
@@ -199,8 +251,18 @@ fn sdcch_4_and_its_sacch() {
     dedicated(
         5,
         0,
-        &[[(22, 25), (37, 40)], [(26, 29), (41, 44)], [(32, 35), (47, 50)], [(36, 39), (0, 3)]],
-        &[[(42, 45), (57, 60)], [(46, 49), (61, 64)], [(93, 96), (6, 9)], [(97, 100), (10, 13)]],
+        &[
+            [(22, 25), (37, 40)],
+            [(26, 29), (41, 44)],
+            [(32, 35), (47, 50)],
+            [(36, 39), (0, 3)],
+        ],
+        &[
+            [(42, 45), (57, 60)],
+            [(46, 49), (61, 64)],
+            [(93, 96), (6, 9)],
+            [(97, 100), (10, 13)],
+        ],
     );
 }
 
