@@ -206,7 +206,7 @@ fn map_lines(random: &mut Random) {
 
 fn main() {
     let mut random = Random(5);
-    println!("Nanoseconds for each call, and the ratio to the first column.");
+    println!("Nanoseconds for each call, and their ratio to the library's (above 1: the library is quicker).");
     clock_lines(&mut random);
     position_lines(&mut random);
     hop_lines(&mut random);

@@ -20,18 +20,15 @@ impl Case {
     /// Compares hop, and position with CA's length. Gives hop's refusal.
     fn compare(&self) -> u32 {
         let Case {
-            ca,
+            ref ca,
             mask,
             hsn,
             maio,
             frame,
-        } = self;
-        let answer = library::hop(ca, *mask, *hsn, *maio, *frame);
-        assert_eq!(
-            answer,
-            HopAnswer::from(hop(ca, *mask, *hsn, *maio, *frame)),
-            "{self:?}"
-        );
+        } = *self;
+        let answer = library::hop(ca, mask, hsn, maio, frame);
+        let second = HopAnswer::from(hop(ca, mask, hsn, maio, frame));
+        assert_eq!(answer, second, "{self:?}");
         self.compare_position(ca.len() as u32);
         answer.refusal
     }
