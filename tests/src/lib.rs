@@ -1,0 +1,32 @@
+//! A second implementation of document 01, to compare the library with.
+//!
+//! `clock`, `hopping` and `frame_map` are written from document 01 alone and by other means than
+//! the library: counters that step from frame to frame, lists of positions, tables of frames that
+//! are painted block by block. `library` is the library under test as C sees it. `random` draws
+//! the inputs.
+
+pub mod clock;
+pub mod frame_map;
+pub mod hopping;
+pub mod library;
+pub mod random;
+
+/// An answer, or the number of the refusal.
+pub type Answer<T> = Result<T, u32>;
+
+/// The refusals of document 01 that the library gives.
+pub const CELL_ALLOCATION: u32 = 1;
+pub const OUT_OF_RANGE: u32 = 3;
+pub const MOBILE_ALLOCATION: u32 = 4;
+pub const MAIO: u32 = 5;
+pub const MALFORMED: u32 = 14;
+
+/// Refuses with the lowest number whose condition holds, in whatever order they are listed.
+pub fn refuse(causes: &[(u32, bool)]) -> Answer<()> {
+    let lowest = causes
+        .iter()
+        .filter(|(_, holds)| *holds)
+        .map(|(number, _)| *number)
+        .min();
+    lowest.map_or(Ok(()), Err)
+}

@@ -1,0 +1,125 @@
+//! The library under test as include/tdma.h declares it, and what an answer of the second
+//! implementation is in its numbers.
+
+use crate::clock::Counters;
+use crate::frame_map::Burst;
+use crate::Answer;
+
+macro_rules! answers {
+    ($($name:ident { $($field:ident),* })*) => { $(
+        #[repr(C)]
+        #[derive(Clone, Copy, Debug, Default, PartialEq, Eq)]
+        pub struct $name { $(pub $field: u32),* }
+    )* };
+}
+
+answers! {
+    SplitAnswer { refusal, t1, t2, t3, t3_prime_given, t3_prime }
+    JoinAnswer { refusal, frame }
+    PositionAnswer { refusal, position }
+    HopAnswer { refusal, arfcn }
+    MapAnswer { refusal, channel, subchannel, blocks, block, place, second_block, second_place }
+}
+
+extern "C" {
+    fn tdma_split(frame: u32) -> SplitAnswer;
+    fn tdma_join(t1: u32, t2: u32, t3: u32) -> JoinAnswer;
+    fn tdma_position(length: u32, mask: u64, hsn: u32, maio: u32, frame: u32) -> PositionAnswer;
+    fn tdma_hop(
+        ca: *const u16,
+        ca_length: usize,
+        mask: u64,
+        hsn: u32,
+        maio: u32,
+        frame: u32,
+    ) -> HopAnswer;
+    fn tdma_map(combination: u32, tn: u32, frame: u32, direction: u32) -> MapAnswer;
+}
+
+// The library takes every value of a number, so these calls are safe; a slice is readable for its
+// length, and its pointer is not null even where it is empty.
+
+pub fn split(frame: u32) -> SplitAnswer {
+    unsafe { tdma_split(frame) }
+}
+
+pub fn join(t1: u32, t2: u32, t3: u32) -> JoinAnswer {
+    unsafe { tdma_join(t1, t2, t3) }
+}
+
+pub fn position(length: u32, mask: u64, hsn: u32, maio: u32, frame: u32) -> PositionAnswer {
+    unsafe { tdma_position(length, mask, hsn, maio, frame) }
+}
+
+pub fn hop(ca: &[u16], mask: u64, hsn: u32, maio: u32, frame: u32) -> HopAnswer {
+    unsafe { tdma_hop(ca.as_ptr(), ca.len(), mask, hsn, maio, frame) }
+}
+
+pub fn map(combination: u32, tn: u32, frame: u32, direction: u32) -> MapAnswer {
+    unsafe { tdma_map(combination, tn, frame, direction) }
+}
+
+impl From<Answer<Counters>> for SplitAnswer {
+    fn from(answer: Answer<Counters>) -> Self {
+        match answer {
+            Err(refusal) => SplitAnswer {
+                refusal,
+                ..Default::default()
+            },
+            Ok(now) => SplitAnswer {
+                refusal: 0,
+                t1: now.t1.into(),
+                t2: now.t2.into(),
+                t3: now.t3.into(),
+                t3_prime_given: now.t3_prime().is_some().into(),
+                t3_prime: now.t3_prime().unwrap_or(0) as u32,
+            },
+        }
+    }
+}
+
+impl From<Answer<u32>> for JoinAnswer {
+    fn from(answer: Answer<u32>) -> Self {
+        let (refusal, frame) = answer.map_or_else(|refusal| (refusal, 0), |frame| (0, frame));
+        JoinAnswer { refusal, frame }
+    }
+}
+
+impl From<Answer<u32>> for PositionAnswer {
+    fn from(answer: Answer<u32>) -> Self {
+        let (refusal, position) = answer.map_or_else(|refusal| (refusal, 0), |at| (0, at));
+        PositionAnswer { refusal, position }
+    }
+}
+
+impl From<Answer<u32>> for HopAnswer {
+    fn from(answer: Answer<u32>) -> Self {
+        let (refusal, arfcn) = answer.map_or_else(|refusal| (refusal, 0), |arfcn| (0, arfcn));
+        HopAnswer { refusal, arfcn }
+    }
+}
+
+impl From<Answer<&Burst>> for MapAnswer {
+    fn from(answer: Answer<&Burst>) -> Self {
+        let burst = match answer {
+            Err(refusal) => {
+                return MapAnswer {
+                    refusal,
+                    ..Default::default()
+                }
+            }
+            Ok(burst) => burst,
+        };
+        let at = |i: usize| burst.blocks.get(i).copied().unwrap_or((0, 0));
+        MapAnswer {
+            refusal: 0,
+            channel: burst.channel as u32,
+            subchannel: burst.subchannel,
+            blocks: burst.blocks.len() as u32,
+            block: at(0).0,
+            place: at(0).1,
+            second_block: at(1).0,
+            second_place: at(1).1,
+        }
+    }
+}

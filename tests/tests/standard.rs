@@ -1,0 +1,294 @@
+//! The figures of the standard (source documents 000 and 001), typed from there and not from
+//! document 01.
+//!
+//! What is damaged there:
+//! - The dots between the first and the last frame of a block are lost, "B(2225)" for 22 to 25.
+//!   The digits are whole, so these are typed, as the first and the last frame.
+//! - SDCCH/4, SACCH/C4, SDCCH/8, SACCH/C8: the column of directions is garbled in 001, and in 000
+//!   the last U of SACCH/C4 is lost and SDCCH/8 has slid by a row. The blocks are whole in both and
+//!   stand in the order D, U for each subchannel.
+//! - SACCH/TH: the rows have slid against the timeslots. In 000 timeslot 6 has a block twice and
+//!   timeslot 7 lacks its second; 001 has all sixteen blocks in order and is typed here.
+//! - TCH/HS: block 2 is cut off in both, and in 001 subchannel 1 has 17 for 11. Blocks 0 and 1 are
+//!   typed from 000; block 2 is skipped.
+//! - RNTABLE (typed in src/hopping.rs): whole in 000; in 001 two commas of the last row are dots.
+//! - Table 5, the RACH of a combined channel: whole in 000, missing in 001.
+//! - Figures 7 and 8 (drawings of the multiframes) are lost in both, and skipped.
+
+use tdma_tests::clock::HYPERFRAME;
+use tdma_tests::frame_map::Channel::{self, *};
+use tdma_tests::frame_map::FRAMES;
+use tdma_tests::hopping::{index, RNTABLE};
+use tdma_tests::library;
+
+const DOWNLINK: u32 = 0;
+const UPLINK: u32 = 1;
+
+/// A line as the library is asked for it.
+#[derive(Clone, Copy, Debug)]
+struct Line {
+    combination: u32,
+    tn: u32,
+    direction: u32,
+}
+
+impl Line {
+    /// The place that a block of a channel has in a frame, if it stands there. `block` is compared
+    /// by its remainder, for blocks that the standard numbers within a shorter repeat length.
+    fn place(self, frame: u32, channel: Channel, s: u32, block: u32, blocks: u32) -> Option<u32> {
+        let told = library::map(self.combination, self.tn, frame, self.direction);
+        assert_eq!(told.refusal, 0, "{self:?}, FN {frame}");
+        let parts = [
+            (told.block, told.place),
+            (told.second_block, told.second_place),
+        ];
+        let mut parts = parts.iter().take(told.blocks as usize);
+        let part = parts.find(|part| part.0 % blocks == block)?;
+        (told.channel == channel as u32 && told.subchannel == s).then_some(part.1)
+    }
+
+    /// A row of clause 7: block `block` of `blocks` stands in these frames of each `length`, in
+    /// this order, and in no others.
+    fn row(self, channel: Channel, s: u32, block: u32, blocks: u32, length: u32, frames: &[u32]) {
+        for frame in 0..FRAMES {
+            let place = frames.iter().position(|&printed| printed == frame % length);
+            let told = self.place(frame, channel, s, block, blocks);
+            let place = place.map(|place| place as u32);
+            assert_eq!(
+                told, place,
+                "{self:?}, {channel:?} {s}, block {block}, FN {frame}"
+            );
+        }
+    }
+
+    /// A row whose block is printed by its first and last frame.
+    fn run(self, channel: Channel, s: u32, block: (u32, u32), length: u32, (a, e): (u32, u32)) {
+        self.row(channel, s, block.0, block.1, length, &Vec::from_iter(a..=e));
+    }
+}
+
+/// The one block of a channel.
+const ONLY: (u32, u32) = (0, 1);
+
+#[test]
+fn frame_numbers() {
+    let fn_max = (26 * 51 * 2048) - 1;
+    assert_eq!(fn_max, 2_715_647);
+    assert_eq!(fn_max + 1, HYPERFRAME);
+    assert_eq!(library::split(fn_max).refusal, 0);
+    assert_eq!(library::split(fn_max + 1).refusal, 3);
+}
+
+/// RNTABLE read out of the library: for each address, the entries that its answers leave possible.
+/// With N = 64 and different T2 and T3 that is one entry. Address 0 has T3 = 0 alone, where an
+/// entry and the one 64 above it hop alike.
+#[test]
+fn the_table_that_the_library_hops_by() {
+    let hsn = 1;
+    for at in 0..114 {
+        let mut possible: Vec<u32> = (0..128).collect();
+        for t3 in (0..51).filter(|&t3| (0..64).contains(&(at - t3))) {
+            let t1 = (at - t3) as u32 ^ hsn;
+            for t2 in 0..26 {
+                let frame = library::join(t1, t2, t3 as u32).frame;
+                let told = library::position(64, u64::MAX, hsn, 0, frame);
+                assert_eq!(told.refusal, 0);
+                possible.retain(|&entry| index(entry, t2, t3 as u32, 64) == told.position);
+            }
+        }
+        let entry = RNTABLE[at as usize / 10][at as usize % 10];
+        let expected = if at == 0 {
+            vec![entry, entry + 64]
+        } else {
+            vec![entry]
+        };
+        assert_eq!(possible, expected, "address {at}");
+    }
+}
+
+#[test]
+fn full_rate_traffic_and_its_sacch() {
+    let blocks: [&[u32]; 3] = [
+        &[0, 1, 2, 3, 4, 5, 6, 7],
+        &[4, 5, 6, 7, 8, 9, 10, 11],
+        &[8, 9, 10, 11, 0, 1, 2, 3],
+    ];
+    let sacch = [
+        [12, 38, 64, 90],
+        [25, 51, 77, 103],
+        [38, 64, 90, 12],
+        [51, 77, 103, 25],
+        [64, 90, 12, 38],
+        [77, 103, 25, 51],
+        [90, 12, 38, 64],
+        [103, 25, 51, 77],
+    ];
+    for tn in 0..8 {
+        for direction in [DOWNLINK, UPLINK] {
+            let line = Line {
+                combination: 1,
+                tn,
+                direction,
+            };
+            for (block, frames) in blocks.iter().enumerate() {
+                line.row(Tch, 0, block as u32, 3, 13, frames);
+            }
+            line.row(Sacch, 0, 0, 1, 104, &sacch[tn as usize]);
+        }
+    }
+}
+
+#[test]
+fn half_rate_traffic_and_its_sacch() {
+    let blocks = [[[0, 2, 4, 6], [4, 6, 8, 10]], [[1, 3, 5, 7], [5, 7, 9, 11]]];
+    let sacch = [
+        [[12, 38, 64, 90], [25, 51, 77, 103]],
+        [[12, 38, 64, 90], [25, 51, 77, 103]],
+        [[38, 64, 90, 12], [51, 77, 103, 25]],
+        [[38, 64, 90, 12], [51, 77, 103, 25]],
+        [[64, 90, 12, 38], [77, 103, 25, 51]],
+        [[64, 90, 12, 38], [77, 103, 25, 51]],
+        [[90, 12, 38, 64], [103, 25, 51, 77]],
+        [[90, 12, 38, 64], [103, 25, 51, 77]],
+    ];
+    for tn in 0..8 {
+        for direction in [DOWNLINK, UPLINK] {
+            let line = Line {
+                combination: 2,
+                tn,
+                direction,
+            };
+            for s in 0..2 {
+                for (block, frames) in blocks[s].iter().enumerate() {
+                    line.row(Tch, s as u32, block as u32, 3, 13, frames);
+                }
+                line.row(Sacch, s as u32, 0, 1, 104, &sacch[tn as usize][s]);
+            }
+        }
+    }
+}
+
+#[test]
+fn broadcast_and_common_channels() {
+    let common = [
+        (6, 9),
+        (12, 15),
+        (16, 19),
+        (22, 25),
+        (26, 29),
+        (32, 35),
+        (36, 39),
+        (42, 45),
+        (46, 49),
+    ];
+    for (combination, tn, blocks) in [(4, 0, 9), (5, 0, 3), (6, 2, 9), (6, 4, 9), (6, 6, 9)] {
+        let line = Line {
+            combination,
+            tn,
+            direction: DOWNLINK,
+        };
+        line.run(Bcch, 0, ONLY, 51, (2, 5));
+        for block in 0..blocks {
+            line.run(Ccch, 0, (block, blocks), 51, common[block as usize]);
+        }
+        if combination != 6 {
+            for block in 0..5 {
+                line.row(
+                    Fcch,
+                    0,
+                    block,
+                    5,
+                    51,
+                    &[[0, 10, 20, 30, 40][block as usize]],
+                );
+                line.row(Sch, 0, block, 5, 51, &[[1, 11, 21, 31, 41][block as usize]]);
+            }
+        }
+    }
+}
+
+#[test]
+fn random_access() {
+    for (combination, tn) in [(4, 0), (6, 2), (6, 4), (6, 6)] {
+        for block in 0..=50 {
+            let line = Line {
+                combination,
+                tn,
+                direction: UPLINK,
+            };
+            line.row(Rach, 0, block, 51, 51, &[block]);
+        }
+    }
+    // Table 5 names the blocks of a combined channel by their frames.
+    let combined = [4, 5].into_iter().chain(14..=36).chain([45, 46]);
+    for (block, frame) in combined.enumerate() {
+        let line = Line {
+            combination: 5,
+            tn: 0,
+            direction: UPLINK,
+        };
+        line.row(Rach, 0, block as u32, 27, 51, &[frame]);
+    }
+}
+
+/// Checks SDCCH and SACCH of a combination: for each subchannel the downlink and the uplink block.
+fn dedicated(combination: u32, tn: u32, sdcch: &[[(u32, u32); 2]], sacch: &[[(u32, u32); 2]]) {
+    for direction in [DOWNLINK, UPLINK] {
+        let line = Line {
+            combination,
+            tn,
+            direction,
+        };
+        for s in 0..sdcch.len() {
+            line.run(Sdcch, s as u32, ONLY, 51, sdcch[s][direction as usize]);
+            line.run(Sacch, s as u32, ONLY, 102, sacch[s][direction as usize]);
+        }
+    }
+}
+
+#[test]
+fn sdcch_4_and_its_sacch() {
+    dedicated(
+        5,
+        0,
+        &[
+            [(22, 25), (37, 40)],
+            [(26, 29), (41, 44)],
+            [(32, 35), (47, 50)],
+            [(36, 39), (0, 3)],
+        ],
+        &[
+            [(42, 45), (57, 60)],
+            [(46, 49), (61, 64)],
+            [(93, 96), (6, 9)],
+            [(97, 100), (10, 13)],
+        ],
+    );
+}
+
+#[test]
+fn sdcch_8_and_its_sacch() {
+    let sdcch = [
+        [(0, 3), (15, 18)],
+        [(4, 7), (19, 22)],
+        [(8, 11), (23, 26)],
+        [(12, 15), (27, 30)],
+        [(16, 19), (31, 34)],
+        [(20, 23), (35, 38)],
+        [(24, 27), (39, 42)],
+        [(28, 31), (43, 46)],
+    ];
+    let sacch = [
+        [(32, 35), (47, 50)],
+        [(36, 39), (51, 54)],
+        [(40, 43), (55, 58)],
+        [(44, 47), (59, 62)],
+        [(83, 86), (98, 101)],
+        [(87, 90), (0, 3)],
+        [(91, 94), (4, 7)],
+        [(95, 98), (8, 11)],
+    ];
+    for tn in 0..8 {
+        dedicated(7, tn, &sdcch, &sacch);
+    }
+}
