@@ -1,6 +1,6 @@
 pub mod AllMaps
+pub mod Causes
 pub mod Computed
-pub mod Drill
 pub mod OneChannel
 pub mod Repeat
 pub mod Same

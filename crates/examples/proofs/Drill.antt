@@ -1,0 +1,43 @@
+-- The drill sheet holds. Assumes nothing.
+use Prim.Native.Nat.{ℕ, _≤_}
+use mathlib.Core.Path.{_≡_, refl, ap, _∙_}
+use mathlib.Core.Bool.{true, not}
+use lib.Dec.{lit≤}
+use borrow.Author.Tests.{le-ltb}
+use Rattle.answers.specs.Outcome.{accepted, decide, anyOf}
+use Rattle.answers.specs.Search.{allBelow, anyBelow, least}
+use Rattle.answers.proofs.Decide.{passes, accepts}
+use Rattle.hopping.specs.Masks.{onesBelow, positionAt, oneAtOrAbove}
+use Rattle.hopping.specs.Allocation.{isAllocation}
+use Rattle.hopping.specs.Hopping.{rntable, nbin, S, maiOf, positionOf, hopOf}
+use Rattle.frame_map.specs.Rows.{numbered, each, from, standing}
+use Rattle.frame_map.specs.Combinations.{fullRate, halfRate, combined, sdcch8, combinations, among, rowsAmong, rowsOf, isCombination}
+use Rattle.frame_map.specs.Map.{mapOf}
+use Rattle.examples.specs.DrillSheet.{DrillSheet}
+
+-- a question in range is answered by what stands there
+module _ (n tn fn d : ℕ) (t : tn ≤ 7) (f : fn ≤ 2715647) (e : d ≤ 1) where
+  in-range : isCombination n ≡ true → mapOf n tn fn d ≡ accepted (standing (rowsOf n tn d) fn)
+  unfolding mapOf
+  in-range c = passes _ _ _ (ap not c, (le-ltb _ _ t, (le-ltb _ _ f, (le-ltb _ _ e, tt)))) ∙ accepts _
+
+pub drill-sheet : DrillSheet
+unfolding decide anyOf allBelow anyBelow least onesBelow positionAt oneAtOrAbove isAllocation rntable nbin S maiOf positionOf hopOf numbered each from standing fullRate halfRate combined sdcch8 combinations among rowsAmong
+drill-sheet =
+    record {
+      last-frame = refl;
+      frame-51 = refl;
+      cyclic = refl;
+      mask-7-fn-0 = refl;
+      mask-7-fn-2 = refl;
+      mask-7-fn-4 = refl;
+      mask-7-maio-1 = refl;
+      mask-15 = refl;
+      full-rate-sacch = λ d h. in-range 1 1 25 d (lit≤ tt) (lit≤ tt) h refl;
+      full-rate-idle = λ d h. in-range 1 1 12 d (lit≤ tt) (lit≤ tt) h refl;
+      half-rate-sacch = λ d h. in-range 2 1 12 d (lit≤ tt) (lit≤ tt) h refl;
+      sdcch8-sacch = λ tn h. in-range 7 tn 102 1 h (lit≤ tt) (lit≤ tt) refl;
+      combined-fn-13 = λ tn h. in-range 5 tn 13 1 h (lit≤ tt) (lit≤ tt) refl;
+      combined-fn-14 = λ tn h. in-range 5 tn 14 1 h (lit≤ tt) (lit≤ tt) refl;
+      combined-fn-64 = λ tn h. in-range 5 tn 64 1 h (lit≤ tt) (lit≤ tt) refl;
+    }
