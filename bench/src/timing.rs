@@ -1,74 +1,102 @@
-//! Timing of several contenders on the same inputs, in turn, since the machine's clock is noisy.
+//! Timing of several contenders on the same inputs. The machine's clock is noisy, so contenders
+//! take turns, and the rounds of each line are spread over the whole run: a busy moment of the
+//! machine then spoils some rounds of every line and not all rounds of one.
 
 use std::hint::black_box;
 use std::time::Instant;
 
-/// How often each contender goes through all inputs; its quickest round counts.
-const ROUNDS: usize = 60;
+/// How often all lines are visited, and how often the contenders take turns in a visit, forth and
+/// back, so that none always comes after the one that empties the caches. The turns are even, which
+/// leaves the contenders in their order. The quickest round of a contender counts.
+const VISITS: usize = 20;
+const TURNS: usize = 4;
 
 /// A contender: a name, and a pass over all inputs that gives the sum of the answers.
-pub struct Contender<'a> {
-    pub name: &'static str,
-    pub pass: Box<dyn Fn() -> u64 + 'a>,
+pub struct Contender {
+    name: &'static str,
+    pass: Box<dyn Fn() -> u64>,
+    quickest: f64,
 }
 
 /// A contender that answers each input with a number.
-pub fn contender<'a, I>(
+pub fn contender<I>(
     name: &'static str,
-    inputs: &'a [I],
-    answer: impl Fn(&I) -> u32 + 'a,
-) -> Contender<'a> {
+    inputs: &'static [I],
+    answer: impl Fn(&I) -> u32 + 'static,
+) -> Contender {
     let pass = move || {
-        inputs
-            .iter()
-            .map(|input| u64::from(answer(black_box(input))))
-            .sum()
+        let answers = inputs.iter().map(|input| answer(black_box(input)));
+        answers.map(u64::from).sum()
     };
     Contender {
         name,
         pass: Box::new(pass),
+        quickest: f64::INFINITY,
     }
 }
 
-/// Nanoseconds for each input, of each contender's quickest round.
-fn measure(contenders: &[Contender], inputs: usize) -> Vec<f64> {
-    let mut quickest = vec![f64::INFINITY; contenders.len()];
-    for _ in 0..ROUNDS {
-        for (contender, quickest) in contenders.iter().zip(&mut quickest) {
-            let start = Instant::now();
-            black_box((contender.pass)());
-            let each = start.elapsed().as_nanos() as f64 / inputs as f64;
-            *quickest = quickest.min(each);
+/// Contenders that answer the same question on the same inputs.
+pub struct Line {
+    pub label: String,
+    pub inputs: usize,
+    pub contenders: Vec<Contender>,
+}
+
+impl Line {
+    /// All contenders must give the same sum.
+    fn compare(&self) {
+        let sum = (self.contenders[0].pass)();
+        for other in &self.contenders {
+            assert_eq!(sum, (other.pass)(), "{}, {}", self.label, other.name);
         }
     }
-    quickest
+
+    fn measure(&mut self) {
+        for _ in 0..TURNS {
+            self.contenders.reverse();
+            for contender in &mut self.contenders {
+                let start = Instant::now();
+                black_box((contender.pass)());
+                let each = start.elapsed().as_nanos() as f64 / self.inputs as f64;
+                contender.quickest = contender.quickest.min(each);
+            }
+        }
+    }
+
+    fn print(&self) {
+        print!("{:<28}", self.label);
+        for contender in &self.contenders {
+            let ratio = contender.quickest / self.contenders[0].quickest;
+            print!("{:>17.1} {:>7.2}x", contender.quickest, ratio);
+        }
+        println!();
+    }
 }
 
-/// Prints the names of the contenders; the ratios are to the first.
-pub fn head(title: &str, names: &[&str]) {
-    print!("\n{title:<28}");
-    for name in names {
-        print!("{name:>26}");
-    }
-    println!();
+/// Lines with the same contenders, under a title.
+pub struct Table {
+    pub title: &'static str,
+    pub lines: Vec<Line>,
 }
 
-/// Measures and prints one line: for each contender nanoseconds, and the ratio to the first.
-/// Contenders that answer the same question must have the same sum.
-pub fn line(label: &str, inputs: usize, contenders: &[Contender]) {
-    let quickest = measure(contenders, inputs);
-    print!("{label:<28}");
-    for each in &quickest {
-        print!("{:>17.1} {:>7.2}x", each, each / quickest[0]);
+impl Table {
+    fn print(&self) {
+        print!("\n{:<28}", self.title);
+        for contender in &self.lines[0].contenders {
+            print!("{:>26}", contender.name);
+        }
+        println!();
+        self.lines.iter().for_each(Line::print);
     }
-    println!();
-    let sum = (contenders[0].pass)();
-    for other in &contenders[1..] {
-        assert_eq!(
-            sum,
-            (other.pass)(),
-            "{} answers otherwise, {label}",
-            other.name
-        );
+}
+
+/// Compares the answers, measures, and prints nanoseconds and the ratio to the first contender.
+pub fn run(mut tables: Vec<Table>) {
+    let lines = tables.iter().flat_map(|table| &table.lines);
+    lines.for_each(Line::compare);
+    for _ in 0..VISITS {
+        let lines = tables.iter_mut().flat_map(|table| &mut table.lines);
+        lines.for_each(Line::measure);
     }
+    tables.iter().for_each(Table::print);
 }
