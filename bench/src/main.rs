@@ -195,8 +195,8 @@ fn map_table(random: &mut Random) -> Table {
 
 fn main() {
     let mut random = Random(5);
-    println!("Nanoseconds for each call, and their ratio to the library's");
-    println!("(above 1: the library is quicker).");
+    println!("Nanoseconds for each call, and the ratio of the library's to it");
+    println!("(below 1: the library is quicker).");
     timing::run(vec![
         clock_table(&mut random),
         position_table(&mut random),

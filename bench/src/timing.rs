@@ -66,8 +66,8 @@ impl Line {
     fn print(&self) {
         print!("{:<28}", self.label);
         for contender in &self.contenders {
-            let ratio = contender.quickest / self.contenders[0].quickest;
-            print!("{:>17.1} {:>7.2}x", contender.quickest, ratio);
+            let ratio = self.contenders[0].quickest / contender.quickest;
+            print!("{:>17.1} {:>8.2}", contender.quickest, ratio);
         }
         println!();
     }
@@ -90,7 +90,7 @@ impl Table {
     }
 }
 
-/// Compares the answers, measures, and prints nanoseconds and the ratio to the first contender.
+/// Compares the answers, measures, and prints nanoseconds and the ratio of the first contender to each.
 pub fn run(mut tables: Vec<Table>) {
     let lines = tables.iter().flat_map(|table| &table.lines);
     lines.for_each(Line::compare);
