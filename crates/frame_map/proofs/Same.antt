@@ -9,7 +9,7 @@ use Rattle.answers.proofs.Tests.{and-left, and-right, not-both}
 use Rattle.frame_map.specs.declared.Kind.{Kind}
 use Rattle.frame_map.specs.declared.Kind.the-variants.{Tch, Sacch, Sdcch, Fcch, Sch, Bcch, Ccch, Rach}
 use Rattle.frame_map.specs.Channels.{Standing, kindNumber, at}
-use Rattle.frame_map.specs.Entries.{kindAt}
+use Rattle.frame_map.specs.Slots.{kindAt}
 
 -- kinds with one number are one kind
 pub kind-back : (k : Kind) → kindAt (kindNumber k) ≡ k

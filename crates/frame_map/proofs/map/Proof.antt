@@ -1,10 +1,12 @@
 -- `map` meets its contract: each refusal is one of the conditions, and else the entry is what stands in the frame. Assumes nothing.
-use borrow.Author.Tests.{le-ltb, lt-ltb}
+use borrow.Author.Tests.{le-ltb, lt-ltb, not-false}
+use native.Mathlib.Omega.{arith}
 use mathlib.Core.Path.{sym, ap, _∙_}
 use mathlib.Core.Bool.{not}
 use Rattle.answers.specs.Outcome.{accepted}
 use Rattle.answers.proofs.Decide.{stops, passes, accepts}
 use Rattle.frame_map.specs.Map.{mapOf}
+use Rattle.frame_map.proofs.Computed.{traffic-rows, control-rows, known}
 use borrow.Author.Needs.{needs}
 use Rattle.frame_map.proofs.map.Statement.{statement}
 use Rattle.frame_map.proofs.map.Tie as tie
@@ -28,17 +30,34 @@ returns-4 : tie.Need-returns-4
 unfolding mapOf
 returns-4 c = sym (stops _ _ _ 3 (lt-ltb _ _ (c .if4 .taken)))
 
-entry-requires : tie.Need-entry-requires
-entry-requires c κs = search needs
-
-unpack-requires : tie.Need-unpack-requires
-unpack-requires c κs = search needs
+traffic-requires : tie.Need-traffic-requires
+traffic-requires c κs =
+    let b = c .before .before .before .before in
+    let k = known _ (sym (b .before .is-combination .ensures) ∙ not-false _ (b .if1 .left)) in
+    omega (arith, k)
 
 returns-5 : tie.Need-returns-5
 unfolding mapOf
 returns-5 c =
     let b = c .before .before in
-    ap accepted (c .unpack .ensures ∙ c .before .entry .ensures)
+    ap accepted (c .traffic .ensures ∙ traffic-rows _ _ _ _ (c .before .if5 .taken))
+    ∙ sym (passes _ _ _ (
+      ap not (sym (b .before .before .before .before .is-combination .ensures)) ∙ b .before .before .before .if1 .left,
+      (le-ltb _ _ (b .before .before .if2 .left), (le-ltb _ _ (b .before .if3 .left), (le-ltb _ _ (b .if4 .left), tt))),
+    )
+    ∙ accepts _)
+
+control-requires : tie.Need-control-requires
+control-requires c κs =
+    let b = c .before .before .before .before in
+    let k = known _ (sym (b .before .is-combination .ensures) ∙ not-false _ (b .if1 .left)) in
+    omega (arith, k)
+
+returns-6 : tie.Need-returns-6
+unfolding mapOf
+returns-6 c =
+    let b = c .before .before in
+    ap accepted (c .control .ensures ∙ control-rows _ _ _ _ (c .before .if5 .left))
     ∙ sym (passes _ _ _ (
       ap not (sym (b .before .before .before .before .is-combination .ensures)) ∙ b .before .before .before .if1 .left,
       (le-ltb _ _ (b .before .before .if2 .left), (le-ltb _ _ (b .before .if3 .left), (le-ltb _ _ (b .if4 .left), tt))),
@@ -54,6 +73,7 @@ map-spec =
     returns-2
     returns-3
     returns-4
-    entry-requires
-    unpack-requires
-    returns-5)
+    traffic-requires
+    returns-5
+    control-requires
+    returns-6)

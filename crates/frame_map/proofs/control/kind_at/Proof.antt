@@ -1,8 +1,8 @@
 -- `kind_at` meets its contract. Assumes nothing.
 use borrow.Author.Tests.{ne-eqb}
-use Rattle.frame_map.specs.Entries.{kindAt}
-use Rattle.frame_map.proofs.kind_at.Statement.{statement}
-use Rattle.frame_map.proofs.kind_at.Tie as tie
+use Rattle.frame_map.specs.Slots.{kindAt}
+use Rattle.frame_map.proofs.control.kind_at.Statement.{statement}
+use Rattle.frame_map.proofs.control.kind_at.Tie as tie
 
 returns : tie.Need-returns
 unfolding kindAt

@@ -1,0 +1,151 @@
+// Combinations 4 to 7, from tables of 16 slots. In 4, 5 and 6 the 51 frames are five rows of ten, and one more: each row has a slot for its
+// first two frames and one for each four frames after them, and slot 15 is the last frame. In 7 each four frames are a slot.
+ghost use mathlib.Core.Path.{_≡_};
+ghost use mathlib.Core.Bool.{cond};
+ghost use mathlib.Core.List.{[], _∷_};
+ghost use Prim.Native.Nat.{_+_, _*_, _/_, _%_, _^_, _<_};
+ghost use Rattle.frame_map.specs.Combinations.{rowsOf};
+ghost use Rattle.frame_map.specs.Map.{carried, inBlocks};
+ghost use Rattle.frame_map.specs.Rows.{standing};
+ghost use Rattle.frame_map.specs.Slots.{kindAt, kindsAt, numbersAt, burstAt};
+use crate::Blocks;
+use crate::Burst;
+use crate::Content;
+use crate::Kind;
+use crate::Place;
+
+// The kind in each slot, a hexadecimal digit: slot 15, then the rows from f = 40 down to f = 0, in each row the second block, the first, and
+// the first two frames. 2 SACCH, 3 SDCCH, 4 FCCH and SCH, 6 BCCH, 7 CCCH, 8 RACH.
+const KINDS_4: u64 = 0x0_774_774_774_774_764;
+
+const KINDS_5: u64 = 0x0_224_334_334_774_764;
+
+const KINDS_6: u64 = 0x0_770_770_770_770_760;
+
+// Uplink: 5 has what downlink had 15 frames ago, if it is SDCCH or SACCH, and else RACH.
+const KINDS_5_UP: u64 = 0x8_228_338_338_888_888;
+
+const KINDS_RACH: u64 = 0x8_888_888_888_888_888;
+
+// Four frames to a digit, from f = 60 down to f = 0.
+const KINDS_7: u64 = 0x0000_2222_3333_3333;
+
+// In the same slots, the subchannel of SDCCH and SACCH, the block of FCCH, SCH, BCCH and CCCH, and for RACH how many times four frames before
+// it are none. SACCH has two words, for g < 51 and for g from 51 on.
+const NUMBERS_4: u64 = 0x0_874_653_432_211_000;
+
+const NUMBERS_5: u64 = 0x0_104_323_102_211_000;
+
+const NUMBERS_5_LATE: u64 = 0x0_324_323_102_211_000;
+
+const NUMBERS_5_UP: u64 = 0x3_101_325_103_333_333;
+
+const NUMBERS_5_UP_LATE: u64 = 0x3_321_325_103_333_333;
+
+const NUMBERS_7: u64 = 0x0000_3210_7654_3210;
+
+const NUMBERS_7_LATE: u64 = 0x0000_7654_7654_3210;
+
+// The word of kinds by 2 * (combination - 4) + direction.
+fn kinds(key: u32) -> u64
+    ensures { λ r. ⌜ r ≡ kindsAt key ⌝ }
+{
+    match key {
+        0 => KINDS_4,
+        2 => KINDS_5,
+        3 => KINDS_5_UP,
+        4 => KINDS_6,
+        6 => KINDS_7,
+        7 => KINDS_7,
+        _ => KINDS_RACH,
+    }
+}
+
+// The word of numbers by 4 * (combination - 4) + 2 * direction, and 1 from g = 51 on.
+fn numbers(key: u32) -> u64
+    ensures { λ r. ⌜ r ≡ numbersAt key ⌝ }
+{
+    match key {
+        0 => NUMBERS_4,
+        1 => NUMBERS_4,
+        4 => NUMBERS_5,
+        5 => NUMBERS_5_LATE,
+        6 => NUMBERS_5_UP,
+        7 => NUMBERS_5_UP_LATE,
+        8 => NUMBERS_4,
+        9 => NUMBERS_4,
+        12 => NUMBERS_7,
+        13 => NUMBERS_7_LATE,
+        14 => NUMBERS_7,
+        15 => NUMBERS_7_LATE,
+        _ => 0,
+    }
+}
+
+// The digit of the slot of `at`.
+fn digit(word: u64, at: u32) -> u32
+    ensures { λ r. ⌜ r ≡ word / 2 ^ (at / 4 % 16 * 4) % 16 ⌝ }
+{
+    ((word >> (at / 4 % 16 * 4)) % 16) as u32
+}
+
+// Without a branch in the machine's code.
+fn choose(first: bool, a: u32, b: u32) -> u32
+    ensures { λ r. ⌜ r ≡ cond first a b ⌝ }
+{
+    if first {
+        return a;
+    }
+    b
+}
+
+// The kind of a number.
+fn kind_at(n: u32) -> Kind
+    ensures { λ r. ⌜ r ≡ kindAt n ⌝ }
+{
+    match n {
+        1 => Kind::Tch,
+        2 => Kind::Sacch,
+        3 => Kind::Sdcch,
+        4 => Kind::Fcch,
+        5 => Kind::Sch,
+        6 => Kind::Bcch,
+        7 => Kind::Ccch,
+        _ => Kind::Rach,
+    }
+}
+
+// The burst at place p of a slot, in frame f. A slot of two frames has places 2 and 3, FCCH and SCH; these and RACH are blocks of one burst.
+fn burst(kind: u32, n: u32, p: u32, f: u32) -> Burst
+    requires { ⌜ ((kind < 16) × (n < 16)) × ((p < 4) × (f < 51)) ⌝ }
+    ensures { λ r. ⌜ inBlocks (r .kind) (r .subchannel) (r .blocks) ≡ burstAt kind n p f ∷ [] ⌝ }
+{
+    let common = choose(kind == 8, (f + 64 - 4 * n) % 64, n);
+    let channel = choose(kind == 4, p + 2, kind);
+    Burst {
+        kind: kind_at(channel),
+        subchannel: choose(kind < 4, n, 0),
+        blocks: Blocks::One(Place {
+            block: choose(kind < 4, 0, common),
+            place: choose(kind % 4 == 0, 0, p),
+        }),
+    }
+}
+
+// Uplink is 15 frames after downlink, and so has what downlink has 87 frames on. Place p of slot i is 4 * i + p, `at`.
+pub(crate) fn control(combination: u32, number: u32, direction: u32) -> Content
+    requires { ⌜ ((3 < combination) × (combination < 8)) × ((number < 2715648) × (direction < 2)) ⌝ }
+    ensures { λ r. ⌜ carried r ≡ standing (rowsOf combination 0 direction) number ⌝ }
+{
+    let here = number % 102;
+    let g = (here + 87 * direction) % 102;
+    let f = g % 51;
+    let at = choose(combination == 7, f, f + f / 10 * 2 + 2);
+    let key = combination % 4 * 2 + direction;
+    let kind = digit(kinds(key), at);
+    if kind == 0 {
+        return Content::Idle;
+    }
+    let n = digit(numbers(key * 2 + g / 51), at);
+    Content::Channel(burst(kind, n, at % 4, here % 51))
+}
