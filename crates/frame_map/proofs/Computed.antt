@@ -1,16 +1,16 @@
 -- What the code computes for each combination is what its rows have in every frame: a computed test over the frames after which the map
 -- repeats, and the remainder. Assumes nothing.
-use Prim.Native.Nat.{ℕ, zero, suc, _+_, _-_, _*_, _/_, _%_, _^_, _<_, _≤_}
-use mathlib.Core.Path.{_≡_, refl, sym, _∙_}
-use mathlib.Core.Bool.{Bool, true, false, not, _&&_, cond}
+use Prim.Native.Nat.{ℕ, zero, suc, _+_, _-_, _*_, _/_, _%_, _^_, _<_}
+use mathlib.Core.Path.{_≡_, refl, ap}
+use mathlib.Core.Bool.{Bool, true, false, not, _&&_, _||_, cond}
 use mathlib.Core.List.{List, [], _∷_}
 use native.Mathlib.Omega.{arith}
 use lib.Bits.{bitAnd}
-use lib.Dec.{eqb, ltb}
-use borrow.Author.Tests.{eq-eqb, ne-eqb, eqb-false, le-ltb, ltb-true, ltb-false, not-true}
+use lib.Dec.{eqb}
+use borrow.Author.Tests.{eq-eqb, ne-eqb}
 use Rattle.answers.specs.Search.{allBelow}
 use Rattle.answers.proofs.Search.{all-at}
-use Rattle.answers.proofs.Tests.{and-left, and-right}
+use Rattle.answers.proofs.Tests.{and-left, and-right, or-none, or-rest}
 use Rattle.frame_map.specs.declared.Kind.the-variants.{Tch}
 use Rattle.frame_map.specs.Channels.{Standing, at}
 use Rattle.frame_map.specs.Rows.{Row, numbered, each, from, standing}
@@ -93,10 +93,10 @@ placeAt c f = cond (eqb c 7) f (f + f / 10 * 2 + 2)
 
 -- what a slot's kind k and number m have
 unfoldable slotAt : ℕ → ℕ → ℕ → ℕ → List Standing
-slotAt k m p f = cond (eqb k 0) [] (burstAt k m (p % 4) f ∷ [])
+slotAt k m p f = cond (eqb k 8) [] (burstAt k m (p % 4) f ∷ [])
 
 unfoldable controlAt : ℕ → ℕ → ℕ → ℕ → List Standing
-controlAt c d here g = slotAt (digitAt (kindsAt (c % 4 * 2 + d)) p) (digitAt (numbersAt ((c % 4 * 2 + d) * 2 + g / 51)) p) p (here % 51)
+controlAt c d here g = slotAt (digitAt (kindsAt (c % 4 * 2 + d % 2)) p) (digitAt (numbersAt ((c % 4 * 2 + d % 2) * 2 + g / 51)) p) p (here % 51)
   where
     p : ℕ
     p = placeAt c (g % 51)
@@ -127,17 +127,17 @@ module _ (n : ℕ) where
     unfolding g
     control = control-law (2 * (c - 4) + d) (omega arith) c d (omega arith) (omega arith)
 
-    module _ (p w k : ℕ) (hp : p ≡ placeAt c ((n % 102 + 87 * d) % 102 % 51)) (hw : w ≡ kindsAt (c % 4 * 2 + d)) (hk : k ≡ digitAt w p) where
-      slot : (v m : ℕ) → v ≡ numbersAt ((c % 4 * 2 + d) * 2 + (n % 102 + 87 * d) % 102 / 51) → m ≡ digitAt v p
+    module _ (p w k : ℕ) (hp : p ≡ placeAt c ((n % 102 + 87 * d) % 102 % 51)) (hw : w ≡ kindsAt (c % 4 * 2 + d % 2)) (hk : k ≡ digitAt w p) where
+      slot : (v m : ℕ) → v ≡ numbersAt ((c % 4 * 2 + d % 2) * 2 + (n % 102 + 87 * d) % 102 / 51) → m ≡ digitAt v p
           → slotAt k m p (n % 102 % 51) ≡ standing (rowsOf c 0 d) n
       unfolding controlAt g
       slot v m hv hm = rw (hk, hm, hw, hv, hp) control
 
-      pub control-idle : k ≡ 0 → [] ≡ standing (rowsOf c 0 d) n
+      pub control-idle : k ≡ 8 → [] ≡ standing (rowsOf c 0 d) n
       unfolding slotAt
       control-idle e = simp (eq-eqb _ _ e) at (slot _ _ refl refl)
 
-      pub control-burst : (k ≡ 0 → ⊥) → (v m : ℕ) → v ≡ numbersAt ((c % 4 * 2 + d) * 2 + (n % 102 + 87 * d) % 102 / 51) → m ≡ digitAt v p
+      pub control-burst : (k ≡ 8 → ⊥) → (v m : ℕ) → v ≡ numbersAt ((c % 4 * 2 + d % 2) * 2 + (n % 102 + 87 * d) % 102 / 51) → m ≡ digitAt v p
           → burstAt k m (p % 4) (n % 102 % 51) ∷ [] ≡ standing (rowsOf c 0 d) n
       unfolding slotAt
       control-burst e v m hv hm = simp (ne-eqb _ _ e) at (slot v m hv hm)
@@ -158,37 +158,25 @@ module _ (tn d n : ℕ) where
 
 -- ---- which numbers are a combination's
 
--- the code's test of a number
-abbrev oneOf : ℕ → Bool
-oneOf c = (ltb c 8 && not (eqb c 0)) && not (eqb c 3)
-
-same : (a b : Bool) → cond a b (not b) ≡ true → a ≡ b
-same true true e = refl
-same true false e = sym e
-same false true e = e
-same false false e = refl
-
-below-eight : (c : ℕ) → c < 8 → oneOf c ≡ isCombination c
-unfolding combinations among allBelow
-below-eight c h =
-    same (oneOf c) (isCombination c) (all-at (λ (k : ℕ). cond (oneOf k) (isCombination k) (not (isCombination k))) 8 refl c h)
-
-from-eight : (c : ℕ) → 8 ≤ c → oneOf c ≡ isCombination c
+pub combination-above : (c : ℕ) → 7 < c → not (isCombination c) ≡ true
 unfolding combinations among
-from-eight c h =
-    simp (le-ltb c 8 h, ne-eqb c 1 (λ q. omega arith), ne-eqb c 2 (λ q. omega arith), ne-eqb c 4 (λ q. omega arith), ne-eqb c 5 (λ q. omega arith), ne-eqb c 6 (λ q. omega arith), ne-eqb c 7 (λ q. omega arith))
+combination-above c h =
+    simp (ne-eqb c 1 (λ q. omega arith), ne-eqb c 2 (λ q. omega arith), ne-eqb c 4 (λ q. omega arith), ne-eqb c 5 (λ q. omega arith), ne-eqb c 6 (λ q. omega arith), ne-eqb c 7 (λ q. omega arith))
 
-pub one-of : (c : ℕ) → oneOf c ≡ isCombination c
-one-of c = go (ltb c 8) refl
-  where
-    go : (b : Bool) → ltb c 8 ≡ b → oneOf c ≡ isCombination c
-    go true e = below-eight c (ltb-true _ _ e)
-    go false e = from-eight c (ltb-false _ _ e)
+pub combination-zero : (c : ℕ) → c ≡ 0 → not (isCombination c) ≡ true
+unfolding combinations among
+combination-zero c e = rw e refl
 
-pub known : (c : ℕ) → isCombination c ≡ true → (0 < c) × ((c ≡ 3 → ⊥) × (c < 8))
-known c e =
-    let w = one-of c ∙ e in
-    let v = and-left (ltb c 8 && not (eqb c 0)) _ w in
-    let z = eqb-false c 0 (not-true _ (and-right (ltb c 8) _ v)) in
-    let t = eqb-false c 3 (not-true _ (and-right (ltb c 8 && not (eqb c 0)) _ w)) in
-    (omega (arith, z), (t, ltb-true _ _ (and-left (ltb c 8) _ v)))
+pub combination-three : (c : ℕ) → c ≡ 3 → not (isCombination c) ≡ true
+unfolding combinations among
+combination-three c e = rw e refl
+
+eight-tested : allBelow (λ (k : ℕ). (eqb k 0 || eqb k 3) || isCombination k) 8 ≡ true
+unfolding combinations among allBelow
+eight-tested = refl
+
+pub combination-known : (c : ℕ) → c < 8 → (c ≡ 0 → ⊥) → (c ≡ 3 → ⊥) → not (isCombination c) ≡ false
+combination-known c h y z =
+    ap not
+    (or-rest (eqb c 0 || eqb c 3) _ (or-none (ne-eqb c 0 y) (ne-eqb c 3 z))
+    (all-at (λ (k : ℕ). (eqb k 0 || eqb k 3) || isCombination k) 8 eight-tested c h))

@@ -15,20 +15,20 @@ use crate::Kind;
 use crate::Place;
 
 // The kind in each slot, a hexadecimal digit: slot 15, then the rows from f = 40 down to f = 0, in each row the second block, the first, and
-// the first two frames. 2 SACCH, 3 SDCCH, 4 FCCH and SCH, 6 BCCH, 7 CCCH, 8 RACH.
-const KINDS_4: u64 = 0x0_774_774_774_774_764;
+// the first two frames. 1 SACCH, 2 SDCCH, 3 FCCH and SCH, 5 BCCH, 6 CCCH, 7 RACH, 8 idle.
+const KINDS_4: u64 = 0x8_663_663_663_663_653;
 
-const KINDS_5: u64 = 0x0_224_334_334_774_764;
+const KINDS_5: u64 = 0x8_113_223_223_663_653;
 
-const KINDS_6: u64 = 0x0_770_770_770_770_760;
+const KINDS_6: u64 = 0x8_668_668_668_668_658;
 
 // Uplink: 5 has what downlink had 15 frames ago, if it is SDCCH or SACCH, and else RACH.
-const KINDS_5_UP: u64 = 0x8_228_338_338_888_888;
+const KINDS_5_UP: u64 = 0x7_117_227_227_777_777;
 
-const KINDS_RACH: u64 = 0x8_888_888_888_888_888;
+const KINDS_RACH: u64 = 0x7_777_777_777_777_777;
 
 // Four frames to a digit, from f = 60 down to f = 0.
-const KINDS_7: u64 = 0x0000_2222_3333_3333;
+const KINDS_7: u64 = 0x8888_1111_2222_2222;
 
 // In the same slots, the subchannel of SDCCH and SACCH, the block of FCCH, SCH, BCCH and CCCH, and for RACH how many times four frames before
 // it are none. SACCH has two words, for g < 51 and for g from 51 on.
@@ -52,12 +52,14 @@ fn kinds(key: u32) -> u64
 {
     match key {
         0 => KINDS_4,
+        1 => KINDS_RACH,
         2 => KINDS_5,
         3 => KINDS_5_UP,
         4 => KINDS_6,
+        5 => KINDS_RACH,
         6 => KINDS_7,
         7 => KINDS_7,
-        _ => KINDS_RACH,
+        _ => 0,
     }
 }
 
@@ -68,12 +70,16 @@ fn numbers(key: u32) -> u64
     match key {
         0 => NUMBERS_4,
         1 => NUMBERS_4,
+        2 => 0,
+        3 => 0,
         4 => NUMBERS_5,
         5 => NUMBERS_5_LATE,
         6 => NUMBERS_5_UP,
         7 => NUMBERS_5_UP_LATE,
         8 => NUMBERS_4,
         9 => NUMBERS_4,
+        10 => 0,
+        11 => 0,
         12 => NUMBERS_7,
         13 => NUMBERS_7_LATE,
         14 => NUMBERS_7,
@@ -101,16 +107,17 @@ fn choose(first: bool, a: u32, b: u32) -> u32
 
 // The kind of a number.
 fn kind_at(n: u32) -> Kind
-    ensures { λ r. ⌜ r ≡ kindAt n ⌝ }
+    ensures { λ r. ⌜ r ≡ kindAt (n % 8) ⌝ }
 {
-    match n {
-        1 => Kind::Tch,
-        2 => Kind::Sacch,
-        3 => Kind::Sdcch,
-        4 => Kind::Fcch,
-        5 => Kind::Sch,
-        6 => Kind::Bcch,
-        7 => Kind::Ccch,
+    match n % 8 {
+        0 => Kind::Tch,
+        1 => Kind::Sacch,
+        2 => Kind::Sdcch,
+        3 => Kind::Fcch,
+        4 => Kind::Sch,
+        5 => Kind::Bcch,
+        6 => Kind::Ccch,
+        7 => Kind::Rach,
         _ => Kind::Rach,
     }
 }
@@ -120,14 +127,14 @@ fn burst(kind: u32, n: u32, p: u32, f: u32) -> Burst
     requires { ⌜ ((kind < 16) × (n < 16)) × ((p < 4) × (f < 51)) ⌝ }
     ensures { λ r. ⌜ inBlocks (r .kind) (r .subchannel) (r .blocks) ≡ burstAt kind n p f ∷ [] ⌝ }
 {
-    let common = choose(kind == 8, (f + 64 - 4 * n) % 64, n);
-    let channel = choose(kind == 4, p + 2, kind);
+    let common = choose(kind == 7, (f + 64 - 4 * n) % 64, n);
+    let channel = choose(kind == 3, p + 1, kind);
     Burst {
         kind: kind_at(channel),
-        subchannel: choose(kind < 4, n, 0),
+        subchannel: choose(kind < 3, n, 0),
         blocks: Blocks::One(Place {
-            block: choose(kind < 4, 0, common),
-            place: choose(kind % 4 == 0, 0, p),
+            block: choose(kind < 3, 0, common),
+            place: choose(kind % 4 == 3, 0, p),
         }),
     }
 }
@@ -141,9 +148,9 @@ pub(crate) fn control(combination: u32, number: u32, direction: u32) -> Content
     let g = (here + 87 * direction) % 102;
     let f = g % 51;
     let at = choose(combination == 7, f, f + f / 10 * 2 + 2);
-    let key = combination % 4 * 2 + direction;
+    let key = combination % 4 * 2 + direction % 2;
     let kind = digit(kinds(key), at);
-    if kind == 0 {
+    if kind == 8 {
         return Content::Idle;
     }
     let n = digit(numbers(key * 2 + g / 51), at);

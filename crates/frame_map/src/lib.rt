@@ -1,6 +1,5 @@
 // From frame to logical channel: which channel, subchannel, block and place a timeslot carries in each frame.
 ghost use mathlib.Core.Path.{_≡_};
-ghost use Rattle.frame_map.specs.Combinations.{isCombination};
 ghost use Rattle.frame_map.specs.Map.{mapOf, mapped};
 
 mod control;
@@ -54,20 +53,10 @@ pub enum Mapped {
 // FN is 0 to 2,715,647.
 const LAST_FRAME: u32 = 2_715_647;
 
-// One of the six combinations: 1, 2, 4, 5, 6 and 7.
-fn is_combination(n: u32) -> bool
-    ensures { λ r. ⌜ r ≡ isCombination n ⌝ }
-{
-    (n < 8) & (n != 0) & (n != 3)
-}
-
 // What a line of this combination and timeslot has in frame `number`, downlink (0) or uplink (1).
 pub fn map(combination: u32, tn: u32, number: u32, direction: u32) -> Mapped
     ensures { λ r. ⌜ mapped r ≡ mapOf combination tn number direction ⌝ }
 {
-    if !is_combination(combination) {
-        return Mapped::Refused(Refusal::OutOfRange);
-    }
     if tn > 7 {
         return Mapped::Refused(Refusal::OutOfRange);
     }
@@ -77,8 +66,17 @@ pub fn map(combination: u32, tn: u32, number: u32, direction: u32) -> Mapped
     if direction > 1 {
         return Mapped::Refused(Refusal::OutOfRange);
     }
-    if combination < 3 {
-        return Mapped::Frame(traffic(combination, tn, number));
+    if combination > 7 {
+        return Mapped::Refused(Refusal::OutOfRange);
     }
-    Mapped::Frame(control(combination, number, direction))
+    if combination > 3 {
+        return Mapped::Frame(control(combination, number, direction));
+    }
+    if combination == 3 {
+        return Mapped::Refused(Refusal::OutOfRange);
+    }
+    if combination == 0 {
+        return Mapped::Refused(Refusal::OutOfRange);
+    }
+    Mapped::Frame(traffic(combination, tn, number))
 }
