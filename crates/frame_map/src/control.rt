@@ -14,24 +14,25 @@ use crate::Content;
 use crate::Kind;
 use crate::Place;
 
-// The kind in each slot, a hexadecimal digit: slot 15, then the rows from f = 40 down to f = 0, in each row the second block, the first, and
-// the first two frames. 1 SACCH, 2 SDCCH, 3 FCCH and SCH, 5 BCCH, 6 CCCH, 7 RACH, 8 idle.
+// The kind in each slot is a hexadecimal digit, slot 0 the lowest: 1 SACCH, 2 SDCCH, 3 FCCH and SCH, 5 BCCH, 6 CCCH, 7 RACH, 8 idle.
+// So a word reads from its end, three digits to a row: frames 0 and 1, 2.., 6.. in the last three; 10 and 11, 12.., 16.. in the three before;
+// and so on to 40 and 41, 42.., 46..; and frame 50 is the first digit.
 const KINDS_4: u64 = 0x8_663_663_663_663_653;
 
 const KINDS_5: u64 = 0x8_113_223_223_663_653;
 
 const KINDS_6: u64 = 0x8_668_668_668_668_658;
 
-// Uplink: 5 has what downlink had 15 frames ago, if it is SDCCH or SACCH, and else RACH.
+// The uplink of 5, by the frame 15 before: SDCCH and SACCH as in downlink, and else RACH.
 const KINDS_5_UP: u64 = 0x7_117_227_227_777_777;
 
 const KINDS_RACH: u64 = 0x7_777_777_777_777_777;
 
-// Four frames to a digit, from f = 60 down to f = 0.
+// 7 has four frames to a digit: 0.. is the last.
 const KINDS_7: u64 = 0x8888_1111_2222_2222;
 
-// In the same slots, the subchannel of SDCCH and SACCH, the block of FCCH, SCH, BCCH and CCCH, and for RACH how many times four frames before
-// it are none. SACCH has two words, for g < 51 and for g from 51 on.
+// The number in each slot: the subchannel of SDCCH and SACCH, the block of FCCH, SCH, BCCH and CCCH, and for RACH the n of block f - 4 * n.
+// Where SACCH stands there is a second word, for g from 51 on.
 const NUMBERS_4: u64 = 0x0_874_653_432_211_000;
 
 const NUMBERS_5: u64 = 0x0_104_323_102_211_000;
@@ -46,7 +47,7 @@ const NUMBERS_7: u64 = 0x0000_3210_7654_3210;
 
 const NUMBERS_7_LATE: u64 = 0x0000_7654_7654_3210;
 
-// The word of kinds by 2 * (combination - 4) + direction.
+// The word of kinds by 2 * (combination - 4) + direction. Each key has an arm, here and below: the compiler makes a table without a test of it.
 fn kinds(key: u32) -> u64
     ensures { λ r. ⌜ r ≡ kindsAt key ⌝ }
 {
@@ -105,7 +106,7 @@ fn choose(first: bool, a: u32, b: u32) -> u32
     b
 }
 
-// The kind of a number.
+// The kind of a digit.
 fn kind_at(n: u32) -> Kind
     ensures { λ r. ⌜ r ≡ kindAt (n % 8) ⌝ }
 {
