@@ -15,8 +15,8 @@ use crate::Kind;
 use crate::Place;
 
 // The kind in each slot is a hexadecimal digit, slot 0 the lowest: 1 SACCH, 2 SDCCH, 3 FCCH and SCH, 5 BCCH, 6 CCCH, 7 RACH, 8 idle.
-// So a word reads from its end, three digits to a row: frames 0 and 1, 2.., 6.. in the last three; 10 and 11, 12.., 16.. in the three before;
-// and so on to 40 and 41, 42.., 46..; and frame 50 is the first digit.
+// So a word reads from its end, three digits to a row: frames 0 and 1, 2.., 6.. are the last three, 10 and 11, 12.., 16.. the three before,
+// and so on to 40 and 41, 42.., 46..; frame 50 is the first digit.
 const KINDS_4: u64 = 0x8_663_663_663_663_653;
 
 const KINDS_5: u64 = 0x8_113_223_223_663_653;
@@ -47,7 +47,7 @@ const NUMBERS_7: u64 = 0x0000_3210_7654_3210;
 
 const NUMBERS_7_LATE: u64 = 0x0000_7654_7654_3210;
 
-// The word of kinds by 2 * (combination - 4) + direction. Each key has an arm, here and below: the compiler makes a table without a test of it.
+// The word of kinds by 2 * (combination - 4) + direction. Each key has an arm, so that the compiler makes a table of it without a test.
 fn kinds(key: u32) -> u64
     ensures { λ r. ⌜ r ≡ kindsAt key ⌝ }
 {
@@ -123,7 +123,7 @@ fn kind_at(n: u32) -> Kind
     }
 }
 
-// The burst at place p of a slot, in frame f. A slot of two frames has places 2 and 3, FCCH and SCH; these and RACH are blocks of one burst.
+// The burst at place p of a slot, in frame f. A slot of two frames has places 2 and 3, FCCH and SCH; these and RACH are single bursts.
 fn burst(kind: u32, n: u32, p: u32, f: u32) -> Burst
     requires { ⌜ ((kind < 16) × (n < 16)) × ((p < 4) × (f < 51)) ⌝ }
     ensures { λ r. ⌜ inBlocks (r .kind) (r .subchannel) (r .blocks) ≡ burstAt kind n p f ∷ [] ⌝ }
