@@ -1,261 +1,182 @@
 -- What the code computes for each combination is what its rows have in every frame: a computed test over the frames after which the map
--- repeats, and the remainder. A law for each way out of the code. Assumes nothing.
-use Prim.Native.Nat.{ℕ, _+_, _-_, _*_, _/_, _%_, _<_, _≤_}
+-- repeats, and the remainder. Assumes nothing.
+use Prim.Native.Nat.{ℕ, zero, suc, _+_, _-_, _*_, _/_, _%_, _^_, _<_}
 use mathlib.Core.Path.{_≡_, refl, ap}
-use mathlib.Core.Bool.{Bool, true, _&&_, cond}
-use mathlib.Core.List.{List}
+use mathlib.Core.Bool.{Bool, true, false, not, _&&_, _||_, cond}
+use mathlib.Core.List.{List, [], _∷_}
 use native.Mathlib.Omega.{arith}
-use lib.Dec.{eqb, ltb}
-use lib.ListN.{getD}
-use borrow.Author.Tests.{eq-eqb, ne-eqb, lt-ltb, le-ltb}
+use lib.Bits.{bitAnd}
+use lib.Dec.{eqb}
+use borrow.Author.Tests.{eq-eqb, ne-eqb}
 use Rattle.answers.specs.Search.{allBelow}
 use Rattle.answers.proofs.Search.{all-at}
-use Rattle.answers.proofs.Tables.{every, at-most}
-use Rattle.answers.proofs.Tests.{and-left, and-right}
-use Rattle.frame_map.specs.Channels.{Standing}
+use Rattle.answers.proofs.Tests.{and-left, and-right, or-none, or-rest}
+use Rattle.frame_map.specs.declared.Kind.the-variants.{Tch}
+use Rattle.frame_map.specs.Channels.{Standing, at}
 use Rattle.frame_map.specs.Rows.{Row, numbered, each, from, standing}
-use Rattle.frame_map.specs.Combinations.{fullRate, halfRate, uncombined, combined, additional, sdcch8}
-use Rattle.frame_map.specs.Entries.{kindAt, unpacked, rachAt, fcchSchAt, uncombinedBlocks, uncombinedBlock, combinedBlocks, combinedBlock}
+use Rattle.frame_map.specs.Combinations.{fullRate, halfRate, uncombined, combined, additional, sdcch8, combinations, among, isCombination, rowsAmong, rowsOf}
+use Rattle.frame_map.specs.Slots.{sacchAt, kindAt, kindsAt, numbersAt, burstAt}
 use Rattle.frame_map.proofs.Repeat.{repeats, standing-mod, allAgree, every-agree}
 use Rattle.frame_map.proofs.Same.{sameAll}
 
--- the entries are the rows' in each of the p frames that repeat, for each x below n ..
-unfoldable agrees : (ℕ → ℕ → ℕ) → (ℕ → List Row) → ℕ → ℕ → Bool
-agrees made rows p n = allBelow (λ (x : ℕ). repeats p (rows x) && allAgree (λ (f : ℕ). unpacked (made x f)) (standing (rows x)) p) n
+-- what is made for each x below n is the rows' in each of the p frames that repeat ..
+unfoldable agrees : (ℕ → ℕ → List Standing) → (ℕ → List Row) → ℕ → ℕ → Bool
+agrees made rows p n = allBelow (λ (x : ℕ). repeats p (rows x) && allAgree (made x) (standing (rows x)) p) n
 
 -- .. and so in every frame
-agreed : (made : ℕ → ℕ → ℕ) (rows : ℕ → List Row) (p n : ℕ) → agrees made rows p n ≡ true
-    → (x : ℕ) → x < n → (fn : ℕ) → made x (fn % p) ≡ made x fn → unpacked (made x fn) ≡ standing (rows x) fn
+agreed : (made : ℕ → ℕ → List Standing) (rows : ℕ → List Row) (p n : ℕ) → agrees made rows p n ≡ true
+    → (x : ℕ) → x < n → (fn : ℕ) → made x (fn % p) ≡ made x fn → made x fn ≡ standing (rows x) fn
 unfolding agrees
 agreed made rows p n e x h fn q =
-    every-agree these (standing (rows x)) p (and-right (repeats p (rows x)) _ w) fn (ap unpacked q)
+    every-agree (made x) (standing (rows x)) p (and-right (repeats p (rows x)) _ w) fn q
     (standing-mod p (rows x) (and-left (repeats p (rows x)) _ w) fn)
   where
-    these : ℕ → List Standing
-    these f = unpacked (made x f)
+    w : (repeats p (rows x) && allAgree (made x) (standing (rows x)) p) ≡ true
+    w = all-at (λ (y : ℕ). repeats p (rows y) && allAgree (made y) (standing (rows y)) p) n e x h
 
-    w : (repeats p (rows x) && allAgree these (standing (rows x)) p) ≡ true
-    w = all-at (λ (y : ℕ). repeats p (rows y) && allAgree (λ (f : ℕ). unpacked (made y f)) (standing (rows y)) p) n e x h
+-- ---- 1 and 2: eight timeslots each
 
--- ---- 1
+unfoldable pub tchAt : ℕ → ℕ → List Standing
+tchAt c k = at Tch s (k / 4) (k % 4 / 2 ^ (c - 1)) ∷ at Tch s ((k / 4 + 5) % 6) ((k % 4 + 4) / 2 ^ (c - 1)) ∷ []
+  where
+    s : ℕ
+    s = bitAnd (k % 4) (c - 1)
 
-unfoldable pub fullTraffic : ℕ → ℕ
-fullTraffic k = 65536 + k / 4 * 16 + k % 4 + 1048576 * ((k / 4 + 5) % 6 * 16 + 4 + k % 4)
+unfoldable trafficAt : ℕ → ℕ → ℕ → ℕ → List Standing
+trafficAt c tn h turn = cond (eqb (h % 13) 12) (sacchAt c tn turn (h / 13)) (tchAt c (h - h / 13))
 
-unfoldable fullOf : ℕ → ℕ → ℕ → ℕ
-fullOf tn h i = cond (eqb h (12 + 13 * (tn % 2))) (131072 + i) (cond (eqb (h % 13) 12) 0 (fullTraffic (h - h / 13)))
+trafficMade : ℕ → ℕ → List Standing
+trafficMade x n = trafficAt (1 + x / 8) (x % 8) (n % 26) (n / 26 % 4)
 
-fullMade : ℕ → ℕ → ℕ
-fullMade tn n = fullOf tn (n % 26) ((n / 26 + 4 - tn / 2) % 4)
+trafficRows : ℕ → List Row
+trafficRows x = rowsOf (1 + x / 8) (x % 8) 0
 
-full-tested : agrees fullMade fullRate 104 8 ≡ true
-unfolding agrees fullMade fullOf fullTraffic allBelow repeats sameAll unpacked kindAt standing fullRate numbered from
-full-tested = refl
+traffic-tested : agrees trafficMade trafficRows 104 16 ≡ true
+unfolding agrees trafficMade trafficAt tchAt trafficRows sacchAt allBelow repeats sameAll standing combinations rowsAmong fullRate halfRate numbered from
+traffic-tested = refl
 
 quarter : (n : ℕ) → n % 104 / 26 ≡ n / 26 % 4
 quarter n = omega arith
 
-turn : (m t : ℕ) → t < 4 → (m % 4 + 4 - t) % 4 ≡ (m + 4 - t) % 4
-turn m t h = omega arith
+module _ (n : ℕ) where
+  same-turn : n % 104 / 26 % 4 ≡ n / 26 % 4
+  same-turn = let a : n / 26 % 4 % 4 ≡ n / 26 % 4 = omega arith in rw (quarter n, a)
 
-module _ (tn : ℕ) (hn : tn < 8) (n : ℕ) where
-  full : unpacked (fullMade tn n) ≡ standing (fullRate tn) n
-  unfolding fullMade
-  full =
-      agreed fullMade fullRate 104 8 full-tested tn hn n
-      (let a : n % 104 % 26 ≡ n % 26 = omega arith in
-      let b : (n % 104 / 26 + 4 - tn / 2) % 4 ≡ (n / 26 + 4 - tn / 2) % 4 = rw (quarter n) (turn (n / 26) (tn / 2) (omega arith)) in
-      rw (a, b))
+  traffic-law : (x : ℕ) → x < 16 → (c tn : ℕ) → c ≡ 1 + x / 8 → tn ≡ x % 8
+      → trafficAt c tn (n % 26) (n / 26 % 4) ≡ standing (rowsOf c tn 0) n
+  unfolding trafficMade trafficRows
+  traffic-law x h c tn p q =
+      let a : n % 104 % 26 ≡ n % 26 = omega arith in
+      rw (p, q) (agreed trafficMade trafficRows 104 16 traffic-tested x h n (rw (a, same-turn)))
 
-  pub full-sacch : n % 26 ≡ 12 + 13 * (tn % 2) → unpacked (131072 + (n / 26 + 4 - tn / 2) % 4) ≡ standing (fullRate tn) n
-  unfolding fullMade fullOf
-  full-sacch e = simp (eq-eqb _ _ e) at full
+  module _ (c tn : ℕ) (hc : 0 < c) (hd : c < 3) (ht : tn < 8) where
+    traffic : trafficAt c tn (n % 26) (n / 26 % 4) ≡ standing (rowsOf c tn 0) n
+    traffic = traffic-law (8 * (c - 1) + tn) (omega arith) c tn (omega arith) (omega arith)
 
-  pub full-idle : (n % 26 ≡ 12 + 13 * (tn % 2) → ⊥) → n % 26 % 13 ≡ 12 → unpacked 0 ≡ standing (fullRate tn) n
-  unfolding fullMade fullOf
-  full-idle e i = simp (ne-eqb _ _ e, eq-eqb _ _ i) at full
+    pub traffic-sacch : n % 26 % 13 ≡ 12 → sacchAt c tn (n / 26 % 4) (n % 26 / 13) ≡ standing (rowsOf c tn 0) n
+    unfolding trafficAt
+    traffic-sacch e = simp (eq-eqb _ _ e) at traffic
 
-  pub full-traffic : (n % 26 ≡ 12 + 13 * (tn % 2) → ⊥) → (n % 26 % 13 ≡ 12 → ⊥)
-      → unpacked (fullTraffic (n % 26 - n % 26 / 13)) ≡ standing (fullRate tn) n
-  unfolding fullMade fullOf
-  full-traffic e i = simp (ne-eqb _ _ e, ne-eqb _ _ i) at full
+    pub traffic-tch : (n % 26 % 13 ≡ 12 → ⊥) → tchAt c (n % 26 - n % 26 / 13) ≡ standing (rowsOf c tn 0) n
+    unfolding trafficAt
+    traffic-tch e = simp (ne-eqb _ _ e) at traffic
 
--- ---- 2
+-- ---- 4 to 7: two directions each
 
-unfoldable pub halfTraffic : ℕ → ℕ
-halfTraffic k = 65536 + k % 2 * 4096 + k / 2 / 2 * 16 + k / 2 % 2 + 1048576 * ((k / 2 / 2 + 5) % 6 * 16 + 2 + k / 2 % 2)
+-- the digit of a slot
+abbrev digitAt : ℕ → ℕ → ℕ
+digitAt word p = word / 2 ^ (p / 4 % 16 * 4) % 16
 
-unfoldable halfOf : ℕ → ℕ → ℕ
-halfOf h i = cond (eqb (h % 13) 12) (131072 + h / 13 * 4096 + i) (halfTraffic (h - h / 13))
+-- 4 * slot + place
+abbrev placeAt : ℕ → ℕ → ℕ
+placeAt c f = cond (eqb c 7) f (f + f / 10 * 2 + 2)
 
-halfMade : ℕ → ℕ → ℕ
-halfMade tn n = halfOf (n % 26) ((n / 26 + 4 - tn / 2) % 4)
+-- what a slot's kind k and number m have
+unfoldable slotAt : ℕ → ℕ → ℕ → ℕ → List Standing
+slotAt k m p f = cond (eqb k 8) [] (burstAt k m (p % 4) f ∷ [])
 
-half-tested : agrees halfMade halfRate 104 8 ≡ true
-unfolding agrees halfMade halfOf halfTraffic allBelow repeats sameAll unpacked kindAt standing halfRate numbered from
-half-tested = refl
+unfoldable controlAt : ℕ → ℕ → ℕ → ℕ → List Standing
+controlAt c d here g = slotAt (digitAt (kindsAt (c % 4 * 2 + d % 2)) p) (digitAt (numbersAt ((c % 4 * 2 + d % 2) * 2 + g / 51)) p) p (here % 51)
+  where
+    p : ℕ
+    p = placeAt c (g % 51)
 
-module _ (tn : ℕ) (hn : tn < 8) (n : ℕ) where
-  half : unpacked (halfMade tn n) ≡ standing (halfRate tn) n
-  unfolding halfMade
-  half =
-      agreed halfMade halfRate 104 8 half-tested tn hn n
-      (let a : n % 104 % 26 ≡ n % 26 = omega arith in
-      let b : (n % 104 / 26 + 4 - tn / 2) % 4 ≡ (n / 26 + 4 - tn / 2) % 4 = rw (quarter n) (turn (n / 26) (tn / 2) (omega arith)) in
-      rw (a, b))
+controlMade : ℕ → ℕ → List Standing
+controlMade x n = controlAt (4 + x / 2) (x % 2) (n % 102) ((n % 102 + 87 * (x % 2)) % 102)
 
-  pub half-sacch : n % 26 % 13 ≡ 12 → unpacked (131072 + n % 26 / 13 * 4096 + (n / 26 + 4 - tn / 2) % 4) ≡ standing (halfRate tn) n
-  unfolding halfMade halfOf
-  half-sacch e = simp (eq-eqb _ _ e) at half
+controlRows : ℕ → List Row
+controlRows x = rowsOf (4 + x / 2) 0 (x % 2)
 
-  pub half-traffic : (n % 26 % 13 ≡ 12 → ⊥) → unpacked (halfTraffic (n % 26 - n % 26 / 13)) ≡ standing (halfRate tn) n
-  unfolding halfMade halfOf
-  half-traffic e = simp (ne-eqb _ _ e) at half
-
--- ---- 4 and 6
-
-uncombinedMade : ℕ → ℕ → ℕ
-uncombinedMade d n = cond (eqb d 1) (524288 + n % 51 * 16) (cond (ltb (n % 51 % 10) 2) (fcchSchAt (n % 51)) (uncombinedBlock (n % 51)))
-
-additionalMade : ℕ → ℕ → ℕ
-additionalMade d n = cond (eqb d 1) (524288 + n % 51 * 16) (cond (ltb (n % 51 % 10) 2) 0 (uncombinedBlock (n % 51)))
-
-uncombined-tested : agrees uncombinedMade uncombined 51 2 ≡ true
-unfolding agrees uncombinedMade fcchSchAt uncombinedBlock allBelow repeats sameAll unpacked kindAt standing uncombined numbered from
-uncombined-tested = refl
-
-additional-tested : agrees additionalMade additional 51 2 ≡ true
-unfolding agrees additionalMade uncombinedBlock allBelow repeats sameAll unpacked kindAt standing additional numbered from
-additional-tested = refl
-
-module _ (d : ℕ) (hd : d < 2) (n : ℕ) where
-  same51 : n % 51 % 51 ≡ n % 51
-  same51 = omega arith
-
-  four : unpacked (uncombinedMade d n) ≡ standing (uncombined d) n
-  unfolding uncombinedMade
-  four = agreed uncombinedMade uncombined 51 2 uncombined-tested d hd n (rw same51)
-
-  six : unpacked (additionalMade d n) ≡ standing (additional d) n
-  unfolding additionalMade
-  six = agreed additionalMade additional 51 2 additional-tested d hd n (rw same51)
-
-  pub four-rach : d ≡ 1 → unpacked (524288 + n % 51 * 16) ≡ standing (uncombined d) n
-  unfolding uncombinedMade
-  four-rach e = simp (eq-eqb _ _ e) at four
-
-  pub four-fcch-sch : (d ≡ 1 → ⊥) → n % 51 % 10 < 2 → unpacked (fcchSchAt (n % 51)) ≡ standing (uncombined d) n
-  unfolding uncombinedMade
-  four-fcch-sch e i = simp (ne-eqb _ _ e, lt-ltb _ _ i) at four
-
-  pub four-block : (d ≡ 1 → ⊥) → 2 ≤ n % 51 % 10 → unpacked (uncombinedBlock (n % 51)) ≡ standing (uncombined d) n
-  unfolding uncombinedMade
-  four-block e i = simp (ne-eqb _ _ e, le-ltb _ _ i) at four
-
-  pub six-rach : d ≡ 1 → unpacked (524288 + n % 51 * 16) ≡ standing (additional d) n
-  unfolding additionalMade
-  six-rach e = simp (eq-eqb _ _ e) at six
-
-  pub six-idle : (d ≡ 1 → ⊥) → n % 51 % 10 < 2 → unpacked 0 ≡ standing (additional d) n
-  unfolding additionalMade
-  six-idle e i = simp (ne-eqb _ _ e, lt-ltb _ _ i) at six
-
-  pub six-block : (d ≡ 1 → ⊥) → 2 ≤ n % 51 % 10 → unpacked (uncombinedBlock (n % 51)) ≡ standing (additional d) n
-  unfolding additionalMade
-  six-block e i = simp (ne-eqb _ _ e, le-ltb _ _ i) at six
-
--- ---- 5
-
-combinedDown : ℕ → ℕ
-combinedDown g = cond (ltb (g % 51 % 10) 2) (fcchSchAt (g % 51)) (combinedBlock g)
-
-combinedUp : ℕ → ℕ → ℕ
-combinedUp g f = cond (ltb (g % 51) 22) (rachAt f) (cond (ltb (g % 51 % 10) 2) (rachAt f) (combinedBlock g))
-
-combinedMade : ℕ → ℕ → ℕ
-combinedMade d n = cond (eqb d 1) (combinedUp ((n + 87) % 102) (n % 51)) (combinedDown (n % 102))
-
-combined-tested : agrees combinedMade combined 102 2 ≡ true
-unfolding agrees combinedMade combinedDown combinedUp fcchSchAt rachAt combinedBlock allBelow repeats sameAll unpacked kindAt standing combined numbered from
-combined-tested = refl
+control-tested : agrees controlMade controlRows 102 8 ≡ true
+unfolding agrees controlMade controlAt slotAt controlRows kindAt kindsAt numbersAt burstAt allBelow repeats sameAll standing combinations rowsAmong uncombined combined additional sdcch8 numbered each from
+control-tested = refl
 
 module _ (n : ℕ) where
-  five : (d : ℕ) → d < 2 → unpacked (combinedMade d n) ≡ standing (combined d) n
-  unfolding combinedMade
-  five d hd =
-      agreed combinedMade combined 102 2 combined-tested d hd n
-      (let a : (n % 102 + 87) % 102 ≡ (n + 87) % 102 = omega arith in
-      let b : n % 102 % 51 ≡ n % 51 = omega arith in
-      let c : n % 102 % 102 ≡ n % 102 = omega arith in
-      rw (a, b, c))
+  control-law : (x : ℕ) → x < 8 → (c d : ℕ) → c ≡ 4 + x / 2 → d ≡ x % 2
+      → controlAt c d (n % 102) ((n % 102 + 87 * d) % 102) ≡ standing (rowsOf c 0 d) n
+  unfolding controlMade controlRows
+  control-law x h c d p q =
+      let a : n % 102 % 102 ≡ n % 102 = omega arith in
+      rw (p, q) (agreed controlMade controlRows 102 8 control-tested x h n (rw a))
 
-  pub five-fcch-sch : n % 102 % 51 % 10 < 2 → unpacked (fcchSchAt (n % 102 % 51)) ≡ standing (combined 0) n
-  unfolding combinedMade combinedDown
-  five-fcch-sch i = simp (lt-ltb _ _ i) at (five 0 (omega arith))
+  module _ (c d : ℕ) (hc : 3 < c) (he : c < 8) (hd : d < 2) where
+    g : ℕ
+    g = (n % 102 + 87 * d) % 102
 
-  pub five-block : 2 ≤ n % 102 % 51 % 10 → unpacked (combinedBlock (n % 102)) ≡ standing (combined 0) n
-  unfolding combinedMade combinedDown
-  five-block i = simp (le-ltb _ _ i) at (five 0 (omega arith))
+    control : controlAt c d (n % 102) g ≡ standing (rowsOf c 0 d) n
+    unfolding g
+    control = control-law (2 * (c - 4) + d) (omega arith) c d (omega arith) (omega arith)
 
-  pub five-rach-early : (n + 87) % 102 % 51 < 22 → unpacked (rachAt (n % 51)) ≡ standing (combined 1) n
-  unfolding combinedMade combinedUp
-  five-rach-early e = simp (lt-ltb _ _ e) at (five 1 (omega arith))
+    module _ (p w k : ℕ) (hp : p ≡ placeAt c ((n % 102 + 87 * d) % 102 % 51)) (hw : w ≡ kindsAt (c % 4 * 2 + d % 2)) (hk : k ≡ digitAt w p) where
+      slot : (v m : ℕ) → v ≡ numbersAt ((c % 4 * 2 + d % 2) * 2 + (n % 102 + 87 * d) % 102 / 51) → m ≡ digitAt v p
+          → slotAt k m p (n % 102 % 51) ≡ standing (rowsOf c 0 d) n
+      unfolding controlAt g
+      slot v m hv hm = rw (hk, hm, hw, hv, hp) control
 
-  pub five-rach : 22 ≤ (n + 87) % 102 % 51 → (n + 87) % 102 % 51 % 10 < 2 → unpacked (rachAt (n % 51)) ≡ standing (combined 1) n
-  unfolding combinedMade combinedUp
-  five-rach e i = simp (le-ltb _ _ e, lt-ltb _ _ i) at (five 1 (omega arith))
+      pub control-idle : k ≡ 8 → [] ≡ standing (rowsOf c 0 d) n
+      unfolding slotAt
+      control-idle e = simp (eq-eqb _ _ e) at (slot _ _ refl refl)
 
-  pub five-dedicated : 22 ≤ (n + 87) % 102 % 51 → 2 ≤ (n + 87) % 102 % 51 % 10 → unpacked (combinedBlock ((n + 87) % 102)) ≡ standing (combined 1) n
-  unfolding combinedMade combinedUp
-  five-dedicated e i = simp (le-ltb _ _ e, le-ltb _ _ i) at (five 1 (omega arith))
+      pub control-burst : (k ≡ 8 → ⊥) → (v m : ℕ) → v ≡ numbersAt ((c % 4 * 2 + d % 2) * 2 + (n % 102 + 87 * d) % 102 / 51) → m ≡ digitAt v p
+          → burstAt k m (p % 4) (n % 102 % 51) ∷ [] ≡ standing (rowsOf c 0 d) n
+      unfolding slotAt
+      control-burst e v m hv hm = simp (ne-eqb _ _ e) at (slot v m hv hm)
 
--- ---- 7
+-- ---- the rows of 1 and 2 are the same in both directions, those of 4 to 7 in all timeslots
 
-sdcch8Of : ℕ → ℕ
-sdcch8Of g =
-    cond (ltb (g % 51) 32) (196608 + g % 51 / 4 * 4096 + g % 51 % 4)
-    (cond (ltb (g % 51) 48) (131072 + (g % 51 / 4 - 8 + g / 51 * 4) * 4096 + g % 51 % 4) 0)
+module _ (tn d n : ℕ) where
+  pub traffic-rows : (c : ℕ) → c < 3 → standing (rowsOf c tn 0) n ≡ standing (rowsOf c tn d) n
+  unfolding combinations rowsAmong
+  traffic-rows zero h = refl
+  traffic-rows (suc zero) h = refl
+  traffic-rows (suc (suc zero)) h = refl
+  traffic-rows (suc (suc (suc c))) h = absurd (omega arith)
 
-sdcch8Made : ℕ → ℕ → ℕ
-sdcch8Made d n = sdcch8Of ((n + 87 * d) % 102)
+  pub control-rows : (c : ℕ) → 2 < c → standing (rowsOf c 0 d) n ≡ standing (rowsOf c tn d) n
+  unfolding combinations rowsAmong
+  control-rows c h = simp (ne-eqb c 1 (λ q. omega arith), ne-eqb c 2 (λ q. omega arith))
 
-sdcch8-tested : agrees sdcch8Made sdcch8 102 2 ≡ true
-unfolding agrees sdcch8Made sdcch8Of allBelow repeats sameAll unpacked kindAt standing sdcch8 each from
-sdcch8-tested = refl
+-- ---- which numbers are a combination's
 
-module _ (d : ℕ) (hd : d < 2) (n : ℕ) where
-  seven : unpacked (sdcch8Made d n) ≡ standing (sdcch8 d) n
-  unfolding sdcch8Made
-  seven = agreed sdcch8Made sdcch8 102 2 sdcch8-tested d hd n (let a : (n % 102 + 87 * d) % 102 ≡ (n + 87 * d) % 102 = omega arith in rw a)
+pub combination-above : (c : ℕ) → 7 < c → not (isCombination c) ≡ true
+unfolding combinations among
+combination-above c h =
+    simp (ne-eqb c 1 (λ q. omega arith), ne-eqb c 2 (λ q. omega arith), ne-eqb c 4 (λ q. omega arith), ne-eqb c 5 (λ q. omega arith), ne-eqb c 6 (λ q. omega arith), ne-eqb c 7 (λ q. omega arith))
 
-  pub seven-sdcch : (n + 87 * d) % 102 % 51 < 32
-      → unpacked (196608 + (n + 87 * d) % 102 % 51 / 4 * 4096 + (n + 87 * d) % 102 % 51 % 4) ≡ standing (sdcch8 d) n
-  unfolding sdcch8Made sdcch8Of
-  seven-sdcch e = simp (lt-ltb _ _ e) at seven
+pub combination-zero : (c : ℕ) → c ≡ 0 → not (isCombination c) ≡ true
+unfolding combinations among
+combination-zero c e = rw e refl
 
-  pub seven-sacch : 32 ≤ (n + 87 * d) % 102 % 51 → (n + 87 * d) % 102 % 51 < 48
-      → unpacked (131072 + ((n + 87 * d) % 102 % 51 / 4 - 8 + (n + 87 * d) % 102 / 51 * 4) * 4096 + (n + 87 * d) % 102 % 51 % 4)
-      ≡ standing (sdcch8 d) n
-  unfolding sdcch8Made sdcch8Of
-  seven-sacch e i = simp (le-ltb _ _ e, lt-ltb _ _ i) at seven
+pub combination-three : (c : ℕ) → c ≡ 3 → not (isCombination c) ≡ true
+unfolding combinations among
+combination-three c e = rw e refl
 
-  pub seven-idle : 32 ≤ (n + 87 * d) % 102 % 51 → 48 ≤ (n + 87 * d) % 102 % 51 → unpacked 0 ≡ standing (sdcch8 d) n
-  unfolding sdcch8Made sdcch8Of
-  seven-idle e i = simp (le-ltb _ _ e, le-ltb _ _ i) at seven
+eight-tested : allBelow (λ (k : ℕ). (eqb k 0 || eqb k 3) || isCombination k) 8 ≡ true
+unfolding combinations among allBelow
+eight-tested = refl
 
--- ---- the sums fit
-
-pub uncombined-fits : (f : ℕ) → uncombinedBlock f < 4294967296
-unfolding every uncombinedBlock
-uncombined-fits f = omega (arith, at-most 458880 uncombinedBlocks refl (2 * (f / 10) + f % 10 / 6))
-
-pub combined-fits : (k p : ℕ) → getD combinedBlocks k 0 + p % 4 < 4294967296
-unfolding every
-combined-fits k p = omega (arith, at-most 458784 combinedBlocks refl k)
-
-pub half-fits : (k : ℕ) → k < 26 → halfTraffic k < 4294967296
-unfolding halfTraffic
-half-fits k h = go (k % 2) (k / 2 / 2) (k / 2 % 2) ((k / 2 / 2 + 5) % 6) (omega arith) (omega arith) (omega arith) (omega arith)
-  where
-    go : (s b p c : ℕ) → s < 2 → b < 7 → p < 2 → c < 6 → 65536 + s * 4096 + b * 16 + p + 1048576 * (c * 16 + 2 + p) < 4294967296
-    go s b p c hs hb hp hc = omega arith
+pub combination-known : (c : ℕ) → c < 8 → (c ≡ 0 → ⊥) → (c ≡ 3 → ⊥) → not (isCombination c) ≡ false
+combination-known c h y z =
+    ap not
+    (or-rest (eqb c 0 || eqb c 3) _ (or-none (ne-eqb c 0 y) (ne-eqb c 3 z))
+    (all-at (λ (k : ℕ). (eqb k 0 || eqb k 3) || isCombination k) 8 eight-tested c h))

@@ -1,5 +1,5 @@
 pub mod Channels
 pub mod Combinations
-pub mod Entries
 pub mod Map
 pub mod Rows
+pub mod Slots
