@@ -2,7 +2,6 @@
 use Prim.Native.Nat.{ℕ}
 use mathlib.Core.Path.{_≡_, refl}
 use mathlib.Core.List.{List, [], _∷_, map}
-use Rattle.answers.specs.Outcome.{Refused}
 use Rattle.answers.specs.Refusals.{refusalOf}
 use Rattle.answers.specs.declared.Refusal.{Refusal}
 use Rattle.answers.specs.declared.Refusal.the-variants.{CellAllocation, CellParameter, OutOfRange, MobileAllocation, Maio, LineOpen, LineClosed, CommonChannel, Clash, NoSubchannel, SubchannelHeld, NotHolder, LineHeld, Malformed, FixedBit, NoCommonLine}

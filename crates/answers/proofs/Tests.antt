@@ -38,13 +38,6 @@ or-rest false b p h = h
 pub or-none : {a b : Bool} → a ≡ false → b ≡ false → (a || b) ≡ false
 or-none {a} {b} p q = cc
 
-pub true-test : {b : Bool} → b ≡ true → T b
-true-test p = subst T (sym p) tt
-
-pub test-true : (b : Bool) → T b → b ≡ true
-test-true true t = refl
-test-true false t = absurd t
-
 -- what is not true is false
 pub refute : (b : Bool) → (b ≡ true → ⊥) → b ≡ false
 refute true f = absurd (f refl)

@@ -1,5 +1,5 @@
 -- Which number and values of document 01 each case of the enum `Refusal` stands for. Assumes nothing.
-use mathlib.Core.List.{List, [], _∷_}
+use mathlib.Core.List.{[], _∷_}
 use Rattle.answers.specs.Outcome.{Refused, alone}
 use Rattle.answers.specs.declared.Refusal.{Refusal}
 use Rattle.answers.specs.declared.Refusal.the-variants.{CellAllocation, CellParameter, OutOfRange, MobileAllocation, Maio, LineOpen, LineClosed, CommonChannel, Clash, NoSubchannel, SubchannelHeld, NotHolder, LineHeld, Malformed, FixedBit, NoCommonLine}

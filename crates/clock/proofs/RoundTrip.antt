@@ -1,11 +1,11 @@
 -- FN to T1, T2, T3 and back: each undoes the other, for every FN and every T1, T2, T3 in range; and the laws of the causes. Assumes nothing.
 use Prim.Native.Nat.{ℕ, _≤_, _<_}
-use mathlib.Core.Path.{_≡_, refl, sym, ap, _∙_}
+use mathlib.Core.Path.{_≡_, refl, ap, _∙_}
 use mathlib.Core.Bool.{true}
 use native.Mathlib.Omega.{arith}
 use native.Mathlib.Decide.{decLt}
 use borrow.Author.Tests.{le-ltb}
-use Rattle.answers.specs.Outcome.{Outcome, Refused, refused, accepted, alone, ascending, ascendingFrom, Cause}
+use Rattle.answers.specs.Outcome.{Refused, refused, accepted, alone, ascending, ascendingFrom}
 use Rattle.answers.proofs.Decide.{stops, passes, accepts}
 use Rattle.answers.proofs.Tests.{le-not-ltb, lt-not-ltb}
 use Rattle.clock.specs.declared.Frame.{Frame}

@@ -1,7 +1,7 @@
 -- Two lines of one timeslot that do not clash have different ARFCNs in every frame. First where one line stands, then two lines. Assumes nothing.
-use Prim.Native.Nat.{ℕ, zero, suc, _+_, _-_, _%_, _≤_, _<_}
+use Prim.Native.Nat.{ℕ, zero, suc, _+_, _-_, _%_, _<_}
 use mathlib.Core.Path.{_≡_, refl, sym, ap, _∙_, subst}
-use mathlib.Core.Bool.{Bool, true, false, not, _&&_, _||_}
+use mathlib.Core.Bool.{Bool, true, false, not, _&&_}
 use mathlib.Core.List.{List}
 use mathlib.Core.Logic.{_⊎_, inl, inr, ⊎-elim}
 use native.Mathlib.Nat.{mod-lt, mod-eq-of-lt, mod-add-mod, add-mod-right, not-suc-le-zero, lt-trans, eq-or-lt-of-le, le-of-suc-le-suc}
@@ -9,12 +9,11 @@ use native.Mathlib.Decide.{decLt}
 use native.Mathlib.Omega.{arith}
 use lib.Dec.{ltb, leb, eqb, eqb·suc-zero}
 use lib.ListN.{length, getD}
-use borrow.Author.Tests.{ltb-true, leb-true, eqb-true, eqb-false, eq-eqb, ne-eqb, le-leb, not-true, not-false}
-use Rattle.answers.specs.Search.{allBelow, anyBelow}
+use borrow.Author.Tests.{ltb-true, eqb-true, eqb-false, eq-eqb, le-leb, not-true, not-false}
 use Rattle.answers.proofs.Search.{all-at, any-at}
 use Rattle.answers.proofs.Tests.{and-left, and-right, and-both, and-rest, or-rest, not-both}
 use Rattle.clock.specs.Clock.{partsOf}
-use Rattle.hopping.specs.Masks.{bit, contains, ones, onesBelow, positionAt, oneAtOrAbove, shareOne}
+use Rattle.hopping.specs.Masks.{bit, contains, ones, onesBelow, oneAtOrAbove, shareOne}
 use Rattle.hopping.specs.Allocation.{inPlace, isAllocation, precedes}
 use Rattle.hopping.specs.Hopping.{S, maiOf, linePosition, lineArfcn}
 use Rattle.hopping.specs.Clash.{Physical, clash}

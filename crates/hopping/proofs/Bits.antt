@@ -3,17 +3,17 @@ use Prim.Native.Nat.{ℕ, zero, suc, _+_, _*_, _/_, _%_, _^_, _-_, _≤_, _<_, m
 use mathlib.Core.Path.{_≡_, refl, sym, ap, _∙_, subst}
 use mathlib.Core.Bool.{Bool, true, false, not, _&&_}
 use mathlib.Core.Logic.{_⊎_, inl, inr, ⊎-elim}
-use native.Mathlib.Nat.{zero-mod, mod-lt, mod-one, mod-eq-of-lt, add-zero, add-suc, zero-add, not-suc-le-zero, le-of-suc-le-suc, eq-or-lt-of-le, lt-irrefl, le-refl, zero-div, add-sub-of-le, sub-add-cancel, le-of-lt, div-eq-of-lt}
-use native.Mathlib.Numerals.{add-one, one-add}
+use native.Mathlib.Nat.{mod-lt, mod-one, mod-eq-of-lt, add-zero, add-suc, not-suc-le-zero, le-refl, zero-div, add-sub-of-le, sub-add-cancel, le-of-lt, div-eq-of-lt}
+use native.Mathlib.Numerals.{one-add}
 use native.Mathlib.Omega.{arith}
 use native.Mathlib.Decide.{decLt}
 use lib.Bits.{bitAnd, and-shr, and-step, and-lt}
 use lib.Count as Count
-use lib.Dec.{eqb, leb, lit<}
-use lib.Pow.{pow-pos, pow-mono, mod-pow-add, shr-shr, field, mod-mod-pow, shr-lt}
+use lib.Dec.{eqb, leb}
+use lib.Pow.{pow-pos, mod-pow-add, shr-shr, shr-lt}
 use borrow.Author.Tests.{eq-eqb, ne-eqb, eqb-true, eqb-false, le-leb, lt-leb, leb-true}
 use Rattle.answers.specs.Search.{anyBelow}
-use Rattle.answers.proofs.Search.{any-at, any-none, least-at, least-none, First, first-or-none}
+use Rattle.answers.proofs.Search.{any-at, any-none, least-at, First, first-or-none}
 use Rattle.answers.proofs.Tests.{and-both, and-left, and-right, not-both, refute}
 use Rattle.hopping.specs.Masks.{bit, contains, onesBelow, ones, positionAt, oneAtOrAbove, shareOne}
 
@@ -47,13 +47,6 @@ bit-lacks m p h = ne-eqb _ _ (λ (e : bit m p ≡ 1). omega arith)
 -- bit p + a of m is bit p of m without its lowest a bits
 pub bit-shift : (m a p : ℕ) → bit m (a + p) ≡ bit (m / 2 ^ a) p
 bit-shift m a p = ap (λ (x : ℕ). x % 2) (sym (shr-shr m a p))
-
--- a bit of the lowest w bits
-pub bit-low : (m w p : ℕ) → p < w → bit (m % 2 ^ w) p ≡ bit m p
-bit-low m w p h =
-    let j = w - p - 1 in
-    let e : (j + 1) + p ≡ w = omega arith in
-    subst (λ (k : ℕ). bit (m % 2 ^ k) p ≡ bit m p) e (ap (λ (x : ℕ). x % 2) (field m (j + 1) p) ∙ mod-mod-pow (m / 2 ^ p) j 1)
 
 -- the lowest p + 1 bits: bit p, and the p below it
 pub low-step : (m p : ℕ) → m % 2 ^ suc p ≡ bit m p * 2 ^ p + m % 2 ^ p
@@ -102,12 +95,6 @@ unfolding onesBelow
 ones-shift m a zero = rw (add-zero, add-zero)
 ones-shift m a (suc p) = rw (add-suc) (let h = ones-shift m a p in let e = bit-shift m a p in omega arith)
 
--- the ones of the lowest w bits
-pub ones-low : (m w p : ℕ) → p ≤ w → onesBelow (m % 2 ^ w) p ≡ onesBelow m p
-unfolding onesBelow
-ones-low m w zero h = refl
-ones-low m w (suc p) h = let a = ones-low m w p (omega arith) in let b = bit-low m w p h in omega arith
-
 ones-bit : (b : ℕ) → b ≤ 1 → Count.ones b ≡ b
 unfolding Count.ones Count.onesIn
 ones-bit zero h = refl
@@ -144,10 +131,6 @@ pub position-is : (m i p : ℕ) → p < 64 → bit m p ≡ 1 → onesBelow m p �
 unfolding positionAt
 position-is m i p h b o =
     least-at (Wanted m i) 64 64 p h (and-both (bit-contains m p b) (eq-eqb _ _ o)) (too-few m i p (omega arith))
-
-pub position-none : (m i : ℕ) → ones m ≤ i → positionAt m i ≡ 64
-unfolding positionAt
-position-none m i h = least-none (Wanted m i) 64 64 (too-few m i 64 h)
 
 -- p is a one of the mask with i ones below it
 pub record OneAt (m i p : ℕ) : Type 0 where

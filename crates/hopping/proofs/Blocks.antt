@@ -2,16 +2,15 @@
 use Prim.Native.Nat.{ℕ, zero, suc, _+_, _*_, _-_, _/_, _%_, _^_, _≤_, _<_}
 use mathlib.Core.Path.{_≡_, refl, sym, ap, _∙_, subst}
 use mathlib.Core.Bool.{Bool, true, false, cond}
-use native.Mathlib.Nat.{mod-lt, mod-mod, add-zero, add-suc, zero-add, mul-zero, mul-suc, not-suc-le-zero, add-comm, le-refl, lt-of-lt-of-le, mul-le-mul-right, div-one, le-of-suc-le-suc}
-use native.Mathlib.Numerals.{add-one, one-add}
+use native.Mathlib.Nat.{mod-lt, add-zero, mul-zero, mul-suc, not-suc-le-zero, add-comm, le-refl, lt-of-lt-of-le, mul-le-mul-right, div-one, le-of-suc-le-suc}
 use native.Mathlib.Omega.{arith}
-use lib.Bits.{bitAnd, and-block, and-mask, and-zero-r}
-use lib.Dec.{ltb, lit<}
+use lib.Bits.{bitAnd, and-block, and-mask}
+use lib.Dec.{ltb}
 use lib.Pow.{pow-pos, pow-add, pow-mono, shr-shr, split, high, low, mod-mod-pow, ones-lt}
-use borrow.Author.Tests.{lt-ltb, le-ltb, ltb-true, ltb-false}
+use borrow.Author.Tests.{ltb-true, ltb-false}
 use Rattle.hopping.specs.Masks.{bit, onesBelow, ones, positionAt}
 use Rattle.hopping.specs.declared.select.Search.{Search}
-use Rattle.hopping.proofs.Bits.{bit-le, ones-shift, ones-low, position-is, bit-shift}
+use Rattle.hopping.proofs.Bits.{bit-le, ones-shift, position-is, bit-shift}
 
 -- ---- one fold
 

@@ -1,9 +1,8 @@
 -- The laws of NBIN, RNTABLE, S and MAI. Assumes nothing.
-use Prim.Native.Nat.{ℕ, zero, suc, _+_, _*_, _-_, _/_, _%_, _^_, _≤_, _<_}
+use Prim.Native.Nat.{ℕ, _+_, _*_, _-_, _%_, _^_, _≤_, _<_}
 use mathlib.Core.Path.{_≡_, refl, sym, ap, _∙_, subst}
 use mathlib.Core.Bool.{Bool, true, false, cond}
-use mathlib.Core.List.{List, [], _∷_}
-use native.Mathlib.Nat.{one-mul, mod-lt, mod-le}
+use native.Mathlib.Nat.{one-mul, mod-lt}
 use native.Mathlib.Omega.{arith}
 use lib.Bits.{bitXor, xor-lt}
 use lib.Count as Count

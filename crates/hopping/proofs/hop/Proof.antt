@@ -1,19 +1,17 @@
 -- `hopping::hop` meets its contract: the position is the one of `position`, whose causes are the rest of hop's. Assumes nothing.
-use Prim.Native.Nat.{ℕ, _≤_, _<_}
+use Prim.Native.Nat.{ℕ, _≤_}
 use mathlib.Core.Path.{_≡_, sym, ap, _∙_}
-use mathlib.Core.Bool.{Bool, true, false, not, _&&_}
+use mathlib.Core.Bool.{true, false, not, _&&_}
 use mathlib.Core.List.{List}
 use native.Mathlib.Omega.{arith}
 use lib.Dec.{ltb, leb}
 use lib.ListN.{length, getD}
 use borrow.Author.Needs.{needs}
 use borrow.Author.Tests.{not-true, not-false, leb-true}
-use Rattle.answers.specs.Outcome.{Outcome, Refused, refused, accepted, alone}
-use Rattle.answers.specs.Refusals.{refusalOf}
-use Rattle.answers.specs.Search.{allBelow}
+use Rattle.answers.specs.Outcome.{Refused, refused, accepted, alone}
 use Rattle.answers.proofs.Decide.{stops, passes, answered, decide-answered}
 use Rattle.answers.proofs.Tests.{and-left, and-right}
-use Rattle.hopping.specs.Allocation.{inPlace, isAllocation}
+use Rattle.hopping.specs.Allocation.{isAllocation}
 use Rattle.hopping.specs.Hopping.{positionCauses, linePosition, positionOf, hopOf, positionSays}
 use Rattle.hopping.proofs.hop.Statement.{statement}
 use Rattle.hopping.proofs.hop.Tie as tie

@@ -1,18 +1,14 @@
 -- `hopping::position` meets its contract: its tests are the causes, in order, and then MAI and its position are the definitions'. Assumes nothing.
 use Prim.Native.Nat.{ℕ, _≤_, _<_}
-use mathlib.Core.Path.{_≡_, sym, ap, _∙_, subst}
-use mathlib.Core.Bool.{Bool, true, false}
+use mathlib.Core.Path.{_≡_, sym, ap, _∙_}
+use mathlib.Core.Bool.{true, false}
 use native.Mathlib.Omega.{arith}
-use native.Mathlib.Nat.{lt-of-lt-of-le}
 use lib.Count as Count
-use lib.Dec.{lit<}
 use borrow.Author.Needs.{needs}
 use borrow.Author.Tests.{eq-eqb, ne-eqb}
-use Rattle.answers.specs.Outcome.{Outcome, refused, accepted, alone}
-use Rattle.answers.specs.Refusals.{refusalOf}
+use Rattle.answers.specs.Outcome.{refused, accepted, alone}
 use Rattle.answers.proofs.Decide.{stops, passes, accepts}
 use Rattle.answers.proofs.Tests.{le-not-ltb, lt-not-ltb}
-use Rattle.clock.specs.declared.Frame.{Frame}
 use Rattle.clock.specs.Clock.{hyperframe, partsOf, splitSays}
 use Rattle.clock.proofs.RoundTrip.{split-parts, split-none}
 use Rattle.hopping.specs.Masks.{ones, positionAt, oneAtOrAbove}

@@ -1,6 +1,6 @@
 -- `tdma::map_burst` meets its contract: one block or two, as the burst says. Assumes nothing.
 use Prim.Native.Nat.{ℕ}
-use mathlib.Core.Path.{_≡_, sym, ap, _∙_}
+use mathlib.Core.Path.{sym, ap, _∙_}
 use borrow.Author.Needs.{needs}
 use Rattle.frame_map.specs.declared.Blocks.{Blocks}
 use Rattle.frame_map.specs.declared.Place.{Place}

@@ -1,5 +1,5 @@
 -- `tdma::split_parts` meets its contract: T3' is what `prime` answers. Assumes nothing.
-use mathlib.Core.Path.{_≡_, sym, ap, _∙_}
+use mathlib.Core.Path.{sym, ap, _∙_}
 use borrow.Author.Needs.{needs}
 use Rattle.clock.specs.Clock.{primeSays}
 use Rattle.tdma.specs.Numbers.{withPrime}

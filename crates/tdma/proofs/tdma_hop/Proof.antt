@@ -1,6 +1,6 @@
 -- `tdma::tdma_hop` meets its contract: the answer of `hop`, in numbers. Assumes nothing.
 use Prim.Native.Nat.{ℕ}
-use mathlib.Core.Path.{_≡_, sym, ap, _∙_}
+use mathlib.Core.Path.{sym, ap, _∙_}
 use borrow.Author.Needs.{needs}
 use Rattle.hopping.specs.Hopping.{hopSays}
 use Rattle.tdma.specs.Numbers.{hopNumbers}

@@ -1,6 +1,6 @@
 -- `tdma::tdma_position` meets its contract: the answer of `position`, in numbers. Assumes nothing.
 use Prim.Native.Nat.{ℕ}
-use mathlib.Core.Path.{_≡_, sym, ap, _∙_}
+use mathlib.Core.Path.{sym, ap, _∙_}
 use borrow.Author.Needs.{needs}
 use Rattle.hopping.specs.Hopping.{positionSays}
 use Rattle.tdma.specs.Numbers.{positionNumbers}

@@ -1,6 +1,6 @@
 -- `tdma::tdma_split` meets its contract: the answer of `new`, in numbers. Assumes nothing.
 use Prim.Native.Nat.{ℕ}
-use mathlib.Core.Path.{_≡_, sym, ap, _∙_}
+use mathlib.Core.Path.{sym, ap, _∙_}
 use borrow.Author.Needs.{needs}
 use Rattle.clock.specs.Clock.{splitSays}
 use Rattle.tdma.specs.Numbers.{splitNumbers}

@@ -1,6 +1,6 @@
 -- `hopping::allocation::in_place` meets its contract: its tests are those of `inPlace`, one after the other. Assumes nothing.
 use Prim.Native.Nat.{ℕ, _-_, _<_, _≤_, suc-le-suc}
-use mathlib.Core.Path.{_≡_, refl, sym, ap, _∙_}
+use mathlib.Core.Path.{_≡_, sym, ap, _∙_}
 use mathlib.Core.Bool.{Bool, true, false, _&&_, _||_}
 use mathlib.Core.List.{List}
 use lib.Dec.{ltb, eqb}

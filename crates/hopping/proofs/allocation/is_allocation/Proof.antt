@@ -1,10 +1,9 @@
 -- `hopping::allocation::is_allocation` meets its contract: the loop has seen every entry below k in place. Assumes nothing.
-use Prim.Native.Nat.{ℕ, _-_, _+_, _<_, _≤_}
-use mathlib.Core.Path.{_≡_, refl, sym, ap, _∙_, subst}
+use Prim.Native.Nat.{ℕ, _-_, _<_, _≤_}
+use mathlib.Core.Path.{_≡_, sym, ap, _∙_}
 use mathlib.Core.Bool.{Bool, true, false, _&&_}
 use mathlib.Core.List.{List}
 use native.Mathlib.Omega.{arith}
-use native.Mathlib.Nat.{le-antisymm}
 use lib.Dec.{ltb, leb}
 use lib.ListN.{length}
 use borrow.Author.Count.{below-none, below-more}
@@ -12,7 +11,7 @@ use borrow.Author.Needs.{needs}
 use borrow.Author.Tests.{lt-ltb, le-ltb, le-leb, lt-leb, not-true, not-false}
 use Rattle.answers.specs.Search.{allBelow}
 use Rattle.answers.proofs.Search.{all-of, all-at}
-use Rattle.answers.proofs.Tests.{and-both, and-left, and-right, and-false-right, refute, not-both}
+use Rattle.answers.proofs.Tests.{and-both, and-false-right, refute, not-both}
 use Rattle.hopping.specs.Allocation.{inPlace, isAllocation}
 use Rattle.hopping.proofs.allocation.is_allocation.Statement.{statement}
 use Rattle.hopping.proofs.allocation.is_allocation.Tie as tie

@@ -1,6 +1,6 @@
 -- `hopping::sequence::mai` meets its contract: the counters are those of the frame, so that S is document 01's. Assumes nothing.
-use Prim.Native.Nat.{ℕ, _+_, _%_, _≤_, _<_}
-use mathlib.Core.Path.{_≡_, ap, _∙_, subst, sym}
+use Prim.Native.Nat.{ℕ, _+_, _%_}
+use mathlib.Core.Path.{_≡_, ap, _∙_}
 use native.Mathlib.Omega.{arith}
 use borrow.Author.Needs.{needs}
 use Rattle.clock.specs.declared.Frame.{Frame}

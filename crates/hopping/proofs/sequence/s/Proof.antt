@@ -1,6 +1,6 @@
 -- `hopping::sequence::s` meets its contract: the index is within RNTABLE, and the shifted 1 is 2 to the power of NBIN. Assumes nothing.
 use Prim.Native.Nat.{_+_, _%_, _≤_}
-use mathlib.Core.Path.{_≡_, ap, _∙_, subst, sym}
+use mathlib.Core.Path.{_≡_, subst, sym}
 use native.Mathlib.Nat.{mod-le}
 use native.Mathlib.Omega.{arith}
 use lib.Bits.{bitXor}
