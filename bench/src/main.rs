@@ -151,9 +151,13 @@ struct Place {
     direction: u32,
 }
 
-fn sum(answer: MapAnswer) -> u32 {
-    let blocks = answer.block + answer.place + answer.second_block + answer.second_place;
-    answer.channel + answer.subchannel + answer.blocks + blocks
+/// A number of all fields, each read by itself as a caller would. (A plain sum is compiled to reads of
+/// four fields at once, which wait until single stores of a callee have left the processor.)
+fn digest(answer: MapAnswer) -> u32 {
+    let channel = answer.channel.rotate_left(4) ^ answer.subchannel;
+    let first = answer.block.rotate_left(3) ^ answer.place;
+    let second = answer.second_block.rotate_left(3) ^ answer.second_place;
+    channel ^ answer.blocks.rotate_left(9) ^ first.rotate_left(12) ^ second.rotate_left(21)
 }
 
 /// The frame map of the combinations given, mixed.
@@ -167,13 +171,13 @@ fn map_line(random: &mut Random, label: String, combinations: &[u32]) -> Line {
     let plain = plain::Tables::new();
     let contenders = vec![
         contender("library", places, |p| {
-            sum(library::map(p.combination, p.tn, p.frame, p.direction))
+            digest(library::map(p.combination, p.tn, p.frame, p.direction))
         }),
         contender("second (painted tables)", places, |p| {
-            sum(frame_map::map(p.combination, p.tn, p.frame, p.direction).into())
+            digest(frame_map::map(p.combination, p.tn, p.frame, p.direction).into())
         }),
         contender("plain table, unchecked", places, move |p| {
-            sum(plain.map(p.combination, p.tn, p.frame, p.direction))
+            digest(plain.map(p.combination, p.tn, p.frame, p.direction))
         }),
     ];
     Line {

@@ -39,22 +39,27 @@ extern "C" {
 // The library takes every value of a number, so these calls are safe; a slice is readable for its
 // length, and its pointer is not null even where it is empty.
 
+#[inline]
 pub fn split(frame: u32) -> SplitAnswer {
     unsafe { tdma_split(frame) }
 }
 
+#[inline]
 pub fn join(t1: u32, t2: u32, t3: u32) -> JoinAnswer {
     unsafe { tdma_join(t1, t2, t3) }
 }
 
+#[inline]
 pub fn position(length: u32, mask: u64, hsn: u32, maio: u32, frame: u32) -> PositionAnswer {
     unsafe { tdma_position(length, mask, hsn, maio, frame) }
 }
 
+#[inline]
 pub fn hop(ca: &[u16], mask: u64, hsn: u32, maio: u32, frame: u32) -> HopAnswer {
     unsafe { tdma_hop(ca.as_ptr(), ca.len(), mask, hsn, maio, frame) }
 }
 
+#[inline]
 pub fn map(combination: u32, tn: u32, frame: u32, direction: u32) -> MapAnswer {
     unsafe { tdma_map(combination, tn, frame, direction) }
 }
