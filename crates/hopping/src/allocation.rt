@@ -10,7 +10,7 @@ fn wide(a: u16) -> u32
     a as u32
 }
 
-// Entry k is an ARFCN and comes after the entry before it. Past the end nothing is in place.
+// Entry k is an ARFCN and comes after the entry before it.
 fn in_place(ca: &[u16], k: usize) -> bool
     requires { ⌜ k < length (now ca) ⌝ }
     ensures { λ r. ⌜ r ≡ inPlace (now (ca .entry)) k ⌝ }

@@ -1,5 +1,5 @@
-// Frequency hopping: document 01, "Hopping (6.2)". The masks are in masks.rt and select.rt, the cell allocation's check in allocation.rt, the sequence in
-// sequence.rt.
+// Frequency hopping: document 01, "Hopping (6.2)". The masks are in masks.rt and select.rt, the check of the cell allocation in
+// allocation.rt, the hopping sequence in sequence.rt.
 pub mod allocation;
 pub mod masks;
 mod select;
