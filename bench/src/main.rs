@@ -151,17 +151,30 @@ struct Place {
     direction: u32,
 }
 
-/// A number of all fields, each read by itself as a caller would. (A plain sum is compiled to reads of
-/// four fields at once, which wait until single stores of a callee have left the processor.)
-fn digest(answer: MapAnswer) -> u32 {
+/// How a caller reads the answer. It matters as much as the call: see docs/DECISIONS.md, "Speed".
+type Reader = fn(MapAnswer) -> u32;
+
+/// The channel alone: the least that a caller can do.
+fn channel_only(answer: MapAnswer) -> u32 {
+    answer.channel
+}
+
+/// Every field by itself.
+fn field_by_field(answer: MapAnswer) -> u32 {
     let channel = answer.channel.rotate_left(4) ^ answer.subchannel;
     let first = answer.block.rotate_left(3) ^ answer.place;
     let second = answer.second_block.rotate_left(3) ^ answer.second_place;
     channel ^ answer.blocks.rotate_left(9) ^ first.rotate_left(12) ^ second.rotate_left(21)
 }
 
+/// All blocks and places added up, which is compiled to one read of four fields.
+fn four_at_once(answer: MapAnswer) -> u32 {
+    let blocks = answer.block + answer.place + answer.second_block + answer.second_place;
+    answer.channel + answer.subchannel + answer.blocks + blocks
+}
+
 /// The frame map of the combinations given, mixed.
-fn map_line(random: &mut Random, label: String, combinations: &[u32]) -> Line {
+fn map_line(random: &mut Random, read: Reader, label: String, combinations: &[u32]) -> Line {
     let places = inputs(|| Place {
         combination: random.one_of(combinations),
         tn: random.below(8),
@@ -170,14 +183,14 @@ fn map_line(random: &mut Random, label: String, combinations: &[u32]) -> Line {
     });
     let plain = plain::Tables::new();
     let contenders = vec![
-        contender("library", places, |p| {
-            digest(library::map(p.combination, p.tn, p.frame, p.direction))
+        contender("library", places, move |p| {
+            read(library::map(p.combination, p.tn, p.frame, p.direction))
         }),
-        contender("second (painted tables)", places, |p| {
-            digest(frame_map::map(p.combination, p.tn, p.frame, p.direction).into())
+        contender("second (painted tables)", places, move |p| {
+            read(frame_map::map(p.combination, p.tn, p.frame, p.direction).into())
         }),
         contender("plain table, unchecked", places, move |p| {
-            digest(plain.map(p.combination, p.tn, p.frame, p.direction))
+            read(plain.map(p.combination, p.tn, p.frame, p.direction))
         }),
     ];
     Line {
@@ -187,14 +200,11 @@ fn map_line(random: &mut Random, label: String, combinations: &[u32]) -> Line {
     }
 }
 
-fn map_table(random: &mut Random) -> Table {
-    let each = COMBINATIONS.map(|c| map_line(random, format!("combination {c}"), &[c]));
+fn map_table(random: &mut Random, title: &'static str, read: Reader) -> Table {
+    let each = COMBINATIONS.map(|c| map_line(random, read, format!("combination {c}"), &[c]));
     let mut lines = Vec::from(each);
-    lines.push(map_line(random, "all mixed".into(), &COMBINATIONS));
-    Table {
-        title: "frame map",
-        lines,
-    }
+    lines.push(map_line(random, read, "all mixed".into(), &COMBINATIONS));
+    Table { title, lines }
 }
 
 fn main() {
@@ -205,6 +215,8 @@ fn main() {
         clock_table(&mut random),
         position_table(&mut random),
         hop_table(&mut random),
-        map_table(&mut random),
+        map_table(&mut random, "map, read field by field", field_by_field),
+        map_table(&mut random, "map, channel read only", channel_only),
+        map_table(&mut random, "map, read four at once", four_at_once),
     ]);
 }
