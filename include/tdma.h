@@ -146,15 +146,15 @@ tdma_hop_answer tdma_hop(const uint16_t *ca, size_t ca_length, uint64_t mask, ui
  */
 
 typedef struct {
-    uint32_t refusal;
-    uint32_t channel;      /* enum tdma_channel */
-    uint32_t subchannel;   /* 0 for FCCH, SCH, BCCH, CCCH and RACH */
-    uint32_t blocks;       /* how many blocks the burst belongs to: 0 idle, 2 for TCH, else 1 */
-    uint32_t block;        /* the number of the first block, from 0 */
-    uint32_t place;        /* the burst's place in it, from 0 */
-    uint32_t second_block; /* TCH: the block before, whose second half the burst carries too */
-    uint32_t second_place;
-} tdma_map_answer;         /* what `blocks` leaves unused is 0 */
+    uint8_t refusal;
+    uint8_t channel;      /* enum tdma_channel */
+    uint8_t subchannel;   /* 0 for FCCH, SCH, BCCH, CCCH and RACH */
+    uint8_t blocks;       /* how many blocks the burst belongs to: 0 idle, 2 for TCH, else 1 */
+    uint8_t block;        /* the number of the first block, from 0 */
+    uint8_t place;        /* the burst's place in it, from 0 */
+    uint8_t second_block; /* TCH: the block before, whose second half the burst carries too */
+    uint8_t second_place;
+} tdma_map_answer;        /* what `blocks` leaves unused is 0; the answer fits one register */
 
 /*
  * The logical channel that stands in a frame.

@@ -5,6 +5,7 @@ mod osmocore;
 mod plain;
 mod timing;
 
+use std::hint::black_box;
 use tdma_tests::clock::{self, HYPERFRAME};
 use tdma_tests::frame_map::{self, COMBINATIONS};
 use tdma_tests::hopping;
@@ -151,26 +152,39 @@ struct Place {
     direction: u32,
 }
 
-/// How a caller reads the answer. It matters as much as the call: see docs/DECISIONS.md, "Speed".
+/// How a caller reads the answer.
 type Reader = fn(MapAnswer) -> u32;
 
 /// The channel alone: the least that a caller can do.
 fn channel_only(answer: MapAnswer) -> u32 {
-    answer.channel
+    answer.channel.into()
 }
 
 /// Every field by itself.
 fn field_by_field(answer: MapAnswer) -> u32 {
-    let channel = answer.channel.rotate_left(4) ^ answer.subchannel;
-    let first = answer.block.rotate_left(3) ^ answer.place;
-    let second = answer.second_block.rotate_left(3) ^ answer.second_place;
-    channel ^ answer.blocks.rotate_left(9) ^ first.rotate_left(12) ^ second.rotate_left(21)
+    let mixed = [
+        (answer.channel, 4),
+        (answer.subchannel, 0),
+        (answer.blocks, 9),
+        (answer.block, 15),
+        (answer.place, 12),
+        (answer.second_block, 24),
+        (answer.second_place, 21),
+    ];
+    let turned = mixed.map(|(field, by)| u32::from(field).rotate_left(by));
+    turned.into_iter().fold(0, |sum, field| sum ^ field)
 }
 
-/// All blocks and places added up, which is compiled to one read of four fields.
-fn four_at_once(answer: MapAnswer) -> u32 {
+/// All fields added up.
+fn added_up(answer: MapAnswer) -> u32 {
     let blocks = answer.block + answer.place + answer.second_block + answer.second_place;
-    answer.channel + answer.subchannel + answer.blocks + blocks
+    u32::from(answer.channel) + u32::from(answer.subchannel + answer.blocks) + u32::from(blocks)
+}
+
+/// Nothing is read, but the whole answer is kept in memory.
+fn stored(answer: MapAnswer) -> u32 {
+    black_box(&answer);
+    0
 }
 
 /// The frame map of the combinations given, mixed.
@@ -216,7 +230,8 @@ fn main() {
         position_table(&mut random),
         hop_table(&mut random),
         map_table(&mut random, "map, read field by field", field_by_field),
+        map_table(&mut random, "map, fields added up", added_up),
         map_table(&mut random, "map, channel read only", channel_only),
-        map_table(&mut random, "map, read four at once", four_at_once),
+        map_table(&mut random, "map, answer stored", stored),
     ]);
 }

@@ -6,19 +6,19 @@ use crate::frame_map::Burst;
 use crate::Answer;
 
 macro_rules! answers {
-    ($($name:ident { $($field:ident),* })*) => { $(
+    ($($name:ident: $number:ident { $($field:ident),* })*) => { $(
         #[repr(C)]
         #[derive(Clone, Copy, Debug, Default, PartialEq, Eq)]
-        pub struct $name { $(pub $field: u32),* }
+        pub struct $name { $(pub $field: $number),* }
     )* };
 }
 
 answers! {
-    SplitAnswer { refusal, t1, t2, t3, t3_prime_given, t3_prime }
-    JoinAnswer { refusal, frame }
-    PositionAnswer { refusal, position }
-    HopAnswer { refusal, arfcn }
-    MapAnswer { refusal, channel, subchannel, blocks, block, place, second_block, second_place }
+    SplitAnswer: u32 { refusal, t1, t2, t3, t3_prime_given, t3_prime }
+    JoinAnswer: u32 { refusal, frame }
+    PositionAnswer: u32 { refusal, position }
+    HopAnswer: u32 { refusal, arfcn }
+    MapAnswer: u8 { refusal, channel, subchannel, blocks, block, place, second_block, second_place }
 }
 
 extern "C" {
@@ -104,12 +104,17 @@ impl From<Answer<u32>> for HopAnswer {
     }
 }
 
+/// A number of the second implementation, as the library answers it.
+fn byte(number: u32) -> u8 {
+    number.try_into().expect("a number that fits a byte")
+}
+
 impl From<Answer<&Burst>> for MapAnswer {
     fn from(answer: Answer<&Burst>) -> Self {
         let burst = match answer {
             Err(refusal) => {
                 return MapAnswer {
-                    refusal,
+                    refusal: byte(refusal),
                     ..Default::default()
                 }
             }
@@ -118,13 +123,13 @@ impl From<Answer<&Burst>> for MapAnswer {
         let at = |i: usize| burst.blocks.get(i).copied().unwrap_or((0, 0));
         MapAnswer {
             refusal: 0,
-            channel: burst.channel as u32,
-            subchannel: burst.subchannel,
-            blocks: burst.blocks.len() as u32,
-            block: at(0).0,
-            place: at(0).1,
-            second_block: at(1).0,
-            second_place: at(1).1,
+            channel: burst.channel as u8,
+            subchannel: byte(burst.subchannel),
+            blocks: burst.blocks.len() as u8,
+            block: byte(at(0).0),
+            place: byte(at(0).1),
+            second_block: byte(at(1).0),
+            second_place: byte(at(1).1),
         }
     }
 }

@@ -33,8 +33,8 @@ fn hopping() {
 }
 
 /// A burst that belongs to block 0 or to the one named.
-fn burst(channel: Channel, subchannel: u32, block: u32, place: u32) -> MapAnswer {
-    let channel = channel as u32;
+fn burst(channel: Channel, subchannel: u8, block: u8, place: u8) -> MapAnswer {
+    let channel = channel as u8;
     MapAnswer {
         channel,
         subchannel,

@@ -51,7 +51,7 @@ fn frames_of_the_whole_hyperframe() {
 #[test]
 fn no_other_combination_is_known() {
     let refused = MapAnswer {
-        refusal: OUT_OF_RANGE,
+        refusal: OUT_OF_RANGE as u8,
         ..Default::default()
     };
     for combination in (0..=300).chain([65_537, 1 << 31, u32::MAX - 1, u32::MAX]) {
@@ -69,7 +69,7 @@ fn no_other_combination_is_known() {
 #[test]
 fn what_is_out_of_range_is_refused() {
     let refused = MapAnswer {
-        refusal: OUT_OF_RANGE,
+        refusal: OUT_OF_RANGE as u8,
         ..Default::default()
     };
     let large = [1 << 8, 1 << 16, 1 << 31, u32::MAX];

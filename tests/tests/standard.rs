@@ -42,9 +42,10 @@ impl Line {
             (told.block, told.place),
             (told.second_block, told.second_place),
         ];
-        let mut parts = parts.iter().take(told.blocks as usize);
-        let part = parts.find(|part| part.0 % blocks == block)?;
-        (told.channel == channel as u32 && told.subchannel == s).then_some(part.1)
+        let mut parts = parts.iter().take(told.blocks.into());
+        let part = parts.find(|part| u32::from(part.0) % blocks == block)?;
+        let here = told.channel == channel as u8 && u32::from(told.subchannel) == s;
+        here.then_some(part.1.into())
     }
 
     /// A row of clause 7: block `block` of `blocks` stands in these frames of each `length`, in

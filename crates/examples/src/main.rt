@@ -76,7 +76,7 @@ fn hop(mask: u32, hsn: u32, maio: u32, frame: u32) {
     word(b"\n");
 }
 
-fn channel(n: u32) {
+fn channel(n: u8) {
     match n {
         1 => word(b" TCH"),
         2 => word(b" SACCH"),
@@ -89,14 +89,18 @@ fn channel(n: u32) {
     }
 }
 
+fn small(n: u8) {
+    number(n as u32);
+}
+
 fn burst(a: TdmaMap) {
     channel(a.channel);
-    number(a.subchannel);
-    number(a.block);
-    number(a.place);
+    small(a.subchannel);
+    small(a.block);
+    small(a.place);
     if a.blocks == 2 {
-        number(a.block2);
-        number(a.place2);
+        small(a.block2);
+        small(a.place2);
     }
 }
 
@@ -108,7 +112,7 @@ fn map(combination: u32, tn: u32, frame: u32, direction: u32) {
     number(direction);
     let a = tdma::tdma_map(combination, tn, frame, direction);
     if a.refusal != 0 {
-        refused(a.refusal);
+        refused(a.refusal as u32);
         return;
     }
     word(b": ok");

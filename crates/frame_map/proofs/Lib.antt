@@ -1,8 +1,11 @@
 pub mod AllMaps
 pub mod Causes
 pub mod Computed
+pub mod Keys
 pub mod OneChannel
+pub mod Range
 pub mod Repeat
 pub mod Same
 pub mod Stood
+pub mod Unpacked
 pub mod Words

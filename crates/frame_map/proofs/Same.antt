@@ -1,5 +1,5 @@
 -- Tests of equality on kinds and on what stands in a frame. Assumes nothing.
-use Prim.Native.Nat.{ℕ, _-_}
+use Prim.Native.Nat.{ℕ}
 use mathlib.Core.Path.{_≡_, refl, sym, ap, _∙_}
 use mathlib.Core.Bool.{Bool, true, false, _&&_}
 use mathlib.Core.List.{List, [], _∷_}
@@ -9,10 +9,10 @@ use Rattle.answers.proofs.Tests.{and-left, and-right, not-both}
 use Rattle.frame_map.specs.declared.Kind.{Kind}
 use Rattle.frame_map.specs.declared.Kind.the-variants.{Tch, Sacch, Sdcch, Fcch, Sch, Bcch, Ccch, Rach}
 use Rattle.frame_map.specs.Channels.{Standing, kindNumber, at}
-use Rattle.frame_map.specs.Slots.{kindAt}
+use Rattle.frame_map.specs.Codes.{kindAt}
 
 -- kinds with one number are one kind
-pub kind-back : (k : Kind) → kindAt (kindNumber k - 1) ≡ k
+pub kind-back : (k : Kind) → kindAt (kindNumber k) ≡ k
 unfolding kindAt
 kind-back Tch = refl
 kind-back Sacch = refl
@@ -24,7 +24,7 @@ kind-back Ccch = refl
 kind-back Rach = refl
 
 pub kind-same : (j k : Kind) → eqb (kindNumber j) (kindNumber k) ≡ true → j ≡ k
-kind-same j k e = sym (kind-back j) ∙ (ap (λ (n : ℕ). kindAt (n - 1)) (eqb-true _ _ e) ∙ kind-back k)
+kind-same j k e = sym (kind-back j) ∙ (ap kindAt (eqb-true _ _ e) ∙ kind-back k)
 
 -- one channel: kind and subchannel agree
 abbrev pub sameChannel : Standing → Standing → Bool

@@ -1,103 +1,241 @@
-// Combinations 4 to 7, from tables of 16 slots. In 4, 5 and 6 the 51 frames are five rows of ten, and one more: each row has a slot for its
-// first two frames and one for each four frames after them, and slot 15 is the last frame. In 7 each four frames are a slot.
+// Combinations 4 to 7, from a table of all their frames: 102 frames, after which each of them repeats, for each combination and direction.
 ghost use mathlib.Core.Path.{_≡_};
 ghost use mathlib.Core.Bool.{cond};
-ghost use mathlib.Core.List.{[], _∷_};
-ghost use Prim.Native.Nat.{_+_, _*_, _/_, _%_, _^_, _<_};
+ghost use Prim.Native.Nat.{_/_, _%_, _*_, _<_};
+ghost use Rattle.frame_map.specs.Codes.{controlWord, spreadOf};
 ghost use Rattle.frame_map.specs.Combinations.{rowsOf};
-ghost use Rattle.frame_map.specs.Map.{carried, inBlocks};
+ghost use Rattle.frame_map.specs.Numbers.{standingNumbers, bytes};
 ghost use Rattle.frame_map.specs.Rows.{standing};
-ghost use Rattle.frame_map.specs.Slots.{kindAt, kindsAt, numbersAt, burstAt};
-use crate::Blocks;
-use crate::Burst;
-use crate::Content;
-use crate::Kind;
-use crate::Place;
 
-// The kind in each slot is a hexadecimal digit, slot 0 the lowest: 1 SACCH, 2 SDCCH, 3 FCCH and SCH, 5 BCCH, 6 CCCH, 7 RACH, 8 idle.
-// So a word reads from its end, three digits to a row: frames 0 and 1, 2.., 6.. are the last three, 10 and 11, 12.., 16.. the three before,
-// and so on to 40 and 41, 42.., 46..; frame 50 is the first digit.
-const KINDS_4: u64 = 0x8_663_663_663_663_653;
-
-const KINDS_5: u64 = 0x8_113_223_223_663_653;
-
-const KINDS_6: u64 = 0x8_668_668_668_668_658;
-
-// The uplink of 5, by the frame 15 before: SDCCH and SACCH as in downlink, and else RACH.
-const KINDS_5_UP: u64 = 0x7_117_227_227_777_777;
-
-const KINDS_RACH: u64 = 0x7_777_777_777_777_777;
-
-// 7 has four frames to a digit: 0.. is the last.
-const KINDS_7: u64 = 0x8888_1111_2222_2222;
-
-// The number in each slot: the subchannel of SDCCH and SACCH, the block of FCCH, SCH, BCCH and CCCH, and for RACH the n of block f - 4 * n.
-// Where SACCH stands there is a second word, for g from 51 on.
-const NUMBERS_4: u64 = 0x0_874_653_432_211_000;
-
-const NUMBERS_5: u64 = 0x0_104_323_102_211_000;
-
-const NUMBERS_5_LATE: u64 = 0x0_324_323_102_211_000;
-
-const NUMBERS_5_UP: u64 = 0x3_101_325_103_333_333;
-
-const NUMBERS_5_UP_LATE: u64 = 0x3_321_325_103_333_333;
-
-const NUMBERS_7: u64 = 0x0000_3210_7654_3210;
-
-const NUMBERS_7_LATE: u64 = 0x0000_7654_7654_3210;
-
-// The word of kinds by 2 * (combination - 4) + direction. Each key has an arm, so that the compiler makes a table of it without a test.
-fn kinds(key: u32) -> u64
-    ensures { λ r. ⌜ r ≡ kindsAt key ⌝ }
+// Four frames to a word, the first one last. A frame is four hexadecimal digits: 4 * block + place (two), subchannel, and the channel's number,
+// 0 for idle. Each key has an arm, so that the compiler makes a table of it without a test.
+fn control_word(key: u32) -> u64
+    requires { ⌜ key < 208 ⌝ }
+    ensures { λ r. ⌜ r ≡ controlWord key ⌝ }
 {
     match key {
-        0 => KINDS_4,
-        1 => KINDS_RACH,
-        2 => KINDS_5,
-        3 => KINDS_5_UP,
-        4 => KINDS_6,
-        5 => KINDS_RACH,
-        6 => KINDS_7,
-        7 => KINDS_7,
+        // 4, downlink
+        0 => 0x0106_0006_0005_0004,
+        1 => 0x0107_0007_0306_0206,
+        2 => 0x0405_0404_0307_0207,
+        3 => 0x0707_0607_0507_0407,
+        4 => 0x0b07_0a07_0907_0807,
+        5 => 0x0d07_0c07_0805_0804,
+        6 => 0x1107_1007_0f07_0e07,
+        7 => 0x0c05_0c04_1307_1207,
+        8 => 0x1707_1607_1507_1407,
+        9 => 0x1b07_1a07_1907_1807,
+        10 => 0x1d07_1c07_1005_1004,
+        11 => 0x2107_2007_1f07_1e07,
+        12 => 0x0004_0000_2307_2207,
+        13 => 0x0206_0106_0006_0005,
+        14 => 0x0207_0107_0007_0306,
+        15 => 0x0407_0405_0404_0307,
+        16 => 0x0807_0707_0607_0507,
+        17 => 0x0804_0b07_0a07_0907,
+        18 => 0x0e07_0d07_0c07_0805,
+        19 => 0x1207_1107_1007_0f07,
+        20 => 0x1407_0c05_0c04_1307,
+        21 => 0x1807_1707_1607_1507,
+        22 => 0x1004_1b07_1a07_1907,
+        23 => 0x1e07_1d07_1c07_1005,
+        24 => 0x2207_2107_2007_1f07,
+        25 => 0x0005_0004_0000_2307,
+        // 4, uplink
+        26 => 0x0c08_0808_0408_0008,
+        27 => 0x1c08_1808_1408_1008,
+        28 => 0x2c08_2808_2408_2008,
+        29 => 0x3c08_3808_3408_3008,
+        30 => 0x4c08_4808_4408_4008,
+        31 => 0x5c08_5808_5408_5008,
+        32 => 0x6c08_6808_6408_6008,
+        33 => 0x7c08_7808_7408_7008,
+        34 => 0x8c08_8808_8408_8008,
+        35 => 0x9c08_9808_9408_9008,
+        36 => 0xac08_a808_a408_a008,
+        37 => 0xbc08_b808_b408_b008,
+        38 => 0x0008_c808_c408_c008,
+        39 => 0x1008_0c08_0808_0408,
+        40 => 0x2008_1c08_1808_1408,
+        41 => 0x3008_2c08_2808_2408,
+        42 => 0x4008_3c08_3808_3408,
+        43 => 0x5008_4c08_4808_4408,
+        44 => 0x6008_5c08_5808_5408,
+        45 => 0x7008_6c08_6808_6408,
+        46 => 0x8008_7c08_7808_7408,
+        47 => 0x9008_8c08_8808_8408,
+        48 => 0xa008_9c08_9808_9408,
+        49 => 0xb008_ac08_a808_a408,
+        50 => 0xc008_bc08_b808_b408,
+        51 => 0x0408_0008_c808_c408,
+        // 5, downlink
+        52 => 0x0106_0006_0005_0004,
+        53 => 0x0107_0007_0306_0206,
+        54 => 0x0405_0404_0307_0207,
+        55 => 0x0707_0607_0507_0407,
+        56 => 0x0b07_0a07_0907_0807,
+        57 => 0x0103_0003_0805_0804,
+        58 => 0x0113_0013_0303_0203,
+        59 => 0x0c05_0c04_0313_0213,
+        60 => 0x0323_0223_0123_0023,
+        61 => 0x0333_0233_0133_0033,
+        62 => 0x0102_0002_1005_1004,
+        63 => 0x0112_0012_0302_0202,
+        64 => 0x0004_0000_0312_0212,
+        65 => 0x0206_0106_0006_0005,
+        66 => 0x0207_0107_0007_0306,
+        67 => 0x0407_0405_0404_0307,
+        68 => 0x0807_0707_0607_0507,
+        69 => 0x0804_0b07_0a07_0907,
+        70 => 0x0203_0103_0003_0805,
+        71 => 0x0213_0113_0013_0303,
+        72 => 0x0023_0c05_0c04_0313,
+        73 => 0x0033_0323_0223_0123,
+        74 => 0x1004_0333_0233_0133,
+        75 => 0x0222_0122_0022_1005,
+        76 => 0x0232_0132_0032_0322,
+        77 => 0x0005_0004_0000_0332,
+        // 5, uplink
+        78 => 0x0333_0233_0133_0033,
+        79 => 0x0122_0022_0408_0008,
+        80 => 0x0132_0032_0322_0222,
+        81 => 0x0c08_0808_0332_0232,
+        82 => 0x1c08_1808_1408_1008,
+        83 => 0x2c08_2808_2408_2008,
+        84 => 0x3c08_3808_3408_3008,
+        85 => 0x4c08_4808_4408_4008,
+        86 => 0x5c08_5808_5408_5008,
+        87 => 0x0203_0103_0003_6008,
+        88 => 0x0213_0113_0013_0303,
+        89 => 0x0023_6808_6408_0313,
+        90 => 0x0033_0323_0223_0123,
+        91 => 0x0008_0333_0233_0133,
+        92 => 0x0202_0102_0002_0408,
+        93 => 0x0212_0112_0012_0302,
+        94 => 0x1008_0c08_0808_0312,
+        95 => 0x2008_1c08_1808_1408,
+        96 => 0x3008_2c08_2808_2408,
+        97 => 0x4008_3c08_3808_3408,
+        98 => 0x5008_4c08_4808_4408,
+        99 => 0x6008_5c08_5808_5408,
+        100 => 0x0303_0203_0103_0003,
+        101 => 0x0313_0213_0113_0013,
+        102 => 0x0123_0023_6808_6408,
+        103 => 0x0133_0033_0323_0223,
+        // 6, downlink
+        104 => 0x0106_0006_0000_0000,
+        105 => 0x0107_0007_0306_0206,
+        106 => 0x0000_0000_0307_0207,
+        107 => 0x0707_0607_0507_0407,
+        108 => 0x0b07_0a07_0907_0807,
+        109 => 0x0d07_0c07_0000_0000,
+        110 => 0x1107_1007_0f07_0e07,
+        111 => 0x0000_0000_1307_1207,
+        112 => 0x1707_1607_1507_1407,
+        113 => 0x1b07_1a07_1907_1807,
+        114 => 0x1d07_1c07_0000_0000,
+        115 => 0x2107_2007_1f07_1e07,
+        116 => 0x0000_0000_2307_2207,
+        117 => 0x0206_0106_0006_0000,
+        118 => 0x0207_0107_0007_0306,
+        119 => 0x0407_0000_0000_0307,
+        120 => 0x0807_0707_0607_0507,
+        121 => 0x0000_0b07_0a07_0907,
+        122 => 0x0e07_0d07_0c07_0000,
+        123 => 0x1207_1107_1007_0f07,
+        124 => 0x1407_0000_0000_1307,
+        125 => 0x1807_1707_1607_1507,
+        126 => 0x0000_1b07_1a07_1907,
+        127 => 0x1e07_1d07_1c07_0000,
+        128 => 0x2207_2107_2007_1f07,
+        129 => 0x0000_0000_0000_2307,
+        // 6, uplink
+        130 => 0x0c08_0808_0408_0008,
+        131 => 0x1c08_1808_1408_1008,
+        132 => 0x2c08_2808_2408_2008,
+        133 => 0x3c08_3808_3408_3008,
+        134 => 0x4c08_4808_4408_4008,
+        135 => 0x5c08_5808_5408_5008,
+        136 => 0x6c08_6808_6408_6008,
+        137 => 0x7c08_7808_7408_7008,
+        138 => 0x8c08_8808_8408_8008,
+        139 => 0x9c08_9808_9408_9008,
+        140 => 0xac08_a808_a408_a008,
+        141 => 0xbc08_b808_b408_b008,
+        142 => 0x0008_c808_c408_c008,
+        143 => 0x1008_0c08_0808_0408,
+        144 => 0x2008_1c08_1808_1408,
+        145 => 0x3008_2c08_2808_2408,
+        146 => 0x4008_3c08_3808_3408,
+        147 => 0x5008_4c08_4808_4408,
+        148 => 0x6008_5c08_5808_5408,
+        149 => 0x7008_6c08_6808_6408,
+        150 => 0x8008_7c08_7808_7408,
+        151 => 0x9008_8c08_8808_8408,
+        152 => 0xa008_9c08_9808_9408,
+        153 => 0xb008_ac08_a808_a408,
+        154 => 0xc008_bc08_b808_b408,
+        155 => 0x0408_0008_c808_c408,
+        // 7, downlink
+        156 => 0x0303_0203_0103_0003,
+        157 => 0x0313_0213_0113_0013,
+        158 => 0x0323_0223_0123_0023,
+        159 => 0x0333_0233_0133_0033,
+        160 => 0x0343_0243_0143_0043,
+        161 => 0x0353_0253_0153_0053,
+        162 => 0x0363_0263_0163_0063,
+        163 => 0x0373_0273_0173_0073,
+        164 => 0x0302_0202_0102_0002,
+        165 => 0x0312_0212_0112_0012,
+        166 => 0x0322_0222_0122_0022,
+        167 => 0x0332_0232_0132_0032,
+        168 => 0x0003_0000_0000_0000,
+        169 => 0x0013_0303_0203_0103,
+        170 => 0x0023_0313_0213_0113,
+        171 => 0x0033_0323_0223_0123,
+        172 => 0x0043_0333_0233_0133,
+        173 => 0x0053_0343_0243_0143,
+        174 => 0x0063_0353_0253_0153,
+        175 => 0x0073_0363_0263_0163,
+        176 => 0x0042_0373_0273_0173,
+        177 => 0x0052_0342_0242_0142,
+        178 => 0x0062_0352_0252_0152,
+        179 => 0x0072_0362_0262_0162,
+        180 => 0x0000_0372_0272_0172,
+        181 => 0x0103_0003_0000_0000,
+        // 7, uplink
+        182 => 0x0352_0252_0152_0052,
+        183 => 0x0362_0262_0162_0062,
+        184 => 0x0372_0272_0172_0072,
+        185 => 0x0003_0000_0000_0000,
+        186 => 0x0013_0303_0203_0103,
+        187 => 0x0023_0313_0213_0113,
+        188 => 0x0033_0323_0223_0123,
+        189 => 0x0043_0333_0233_0133,
+        190 => 0x0053_0343_0243_0143,
+        191 => 0x0063_0353_0253_0153,
+        192 => 0x0073_0363_0263_0163,
+        193 => 0x0002_0373_0273_0173,
+        194 => 0x0012_0302_0202_0102,
+        195 => 0x0022_0312_0212_0112,
+        196 => 0x0032_0322_0222_0122,
+        197 => 0x0000_0332_0232_0132,
+        198 => 0x0103_0003_0000_0000,
+        199 => 0x0113_0013_0303_0203,
+        200 => 0x0123_0023_0313_0213,
+        201 => 0x0133_0033_0323_0223,
+        202 => 0x0143_0043_0333_0233,
+        203 => 0x0153_0053_0343_0243,
+        204 => 0x0163_0063_0353_0253,
+        205 => 0x0173_0073_0363_0263,
+        206 => 0x0142_0042_0373_0273,
+        207 => 0x0152_0052_0342_0242,
         _ => 0,
     }
-}
-
-// The word of numbers by 4 * (combination - 4) + 2 * direction, and 1 from g = 51 on.
-fn numbers(key: u32) -> u64
-    ensures { λ r. ⌜ r ≡ numbersAt key ⌝ }
-{
-    match key {
-        0 => NUMBERS_4,
-        1 => NUMBERS_4,
-        2 => 0,
-        3 => 0,
-        4 => NUMBERS_5,
-        5 => NUMBERS_5_LATE,
-        6 => NUMBERS_5_UP,
-        7 => NUMBERS_5_UP_LATE,
-        8 => NUMBERS_4,
-        9 => NUMBERS_4,
-        10 => 0,
-        11 => 0,
-        12 => NUMBERS_7,
-        13 => NUMBERS_7_LATE,
-        14 => NUMBERS_7,
-        15 => NUMBERS_7_LATE,
-        _ => 0,
-    }
-}
-
-// The digit of the slot of `at`.
-fn digit(word: u64, at: u32) -> u32
-    ensures { λ r. ⌜ r ≡ word / 2 ^ (at / 4 % 16 * 4) % 16 ⌝ }
-{
-    ((word >> (at / 4 % 16 * 4)) % 16) as u32
 }
 
 // Without a branch in the machine's code.
-fn choose(first: bool, a: u32, b: u32) -> u32
+fn choose(first: bool, a: u64, b: u64) -> u64
     ensures { λ r. ⌜ r ≡ cond first a b ⌝ }
 {
     if first {
@@ -106,54 +244,21 @@ fn choose(first: bool, a: u32, b: u32) -> u32
     b
 }
 
-// The kind of a digit.
-fn kind_at(n: u32) -> Kind
-    ensures { λ r. ⌜ r ≡ kindAt (n % 8) ⌝ }
+// The digits of a frame as bytes.
+fn spread(code: u64) -> u64
+    ensures { λ r. ⌜ r ≡ spreadOf code ⌝ }
 {
-    match n % 8 {
-        0 => Kind::Tch,
-        1 => Kind::Sacch,
-        2 => Kind::Sdcch,
-        3 => Kind::Fcch,
-        4 => Kind::Sch,
-        5 => Kind::Bcch,
-        6 => Kind::Ccch,
-        7 => Kind::Rach,
-        _ => Kind::Rach,
-    }
+    let channel = code % 16;
+    let blocks = choose(channel == 0, 0, 0x100_0000);
+    let first = channel * 0x100 + code / 16 % 16 * 0x1_0000 + blocks;
+    first + code / 1024 % 64 * 0x1_0000_0000 + code / 256 % 4 * 0x100_0000_0000
 }
 
-// The burst at place p of a slot, in frame f. A slot of two frames has places 2 and 3, FCCH and SCH; these and RACH are single bursts.
-fn burst(kind: u32, n: u32, p: u32, f: u32) -> Burst
-    requires { ⌜ ((kind < 16) × (n < 16)) × ((p < 4) × (f < 51)) ⌝ }
-    ensures { λ r. ⌜ inBlocks (r .kind) (r .subchannel) (r .blocks) ≡ burstAt kind n p f ∷ [] ⌝ }
-{
-    let common = choose(kind == 7, (f + 64 - 4 * n) % 64, n);
-    let channel = choose(kind == 3, p + 1, kind);
-    Burst {
-        kind: kind_at(channel),
-        subchannel: choose(kind < 3, n, 0),
-        blocks: Blocks::One(Place {
-            block: choose(kind < 3, 0, common),
-            place: choose(kind % 4 == 3, 0, p),
-        }),
-    }
-}
-
-// Uplink is 15 frames after downlink, and so has what downlink has 87 frames on. Place p of slot i is 4 * i + p, `at`.
-pub(crate) fn control(combination: u32, number: u32, direction: u32) -> Content
+pub(crate) fn control(combination: u32, number: u32, direction: u32) -> u64
     requires { ⌜ ((3 < combination) × (combination < 8)) × ((number < 2715648) × (direction < 2)) ⌝ }
-    ensures { λ r. ⌜ carried r ≡ standing (rowsOf combination 0 direction) number ⌝ }
+    ensures { λ r. ⌜ r ≡ bytes (standingNumbers (standing (rowsOf combination 0 direction) number)) ⌝ }
 {
     let here = number % 102;
-    let g = (here + 87 * direction) % 102;
-    let f = g % 51;
-    let at = choose(combination == 7, f, f + f / 10 * 2 + 2);
-    let key = combination % 4 * 2 + direction % 2;
-    let kind = digit(kinds(key), at);
-    if kind == 8 {
-        return Content::Idle;
-    }
-    let n = digit(numbers(key * 2 + g / 51), at);
-    Content::Channel(burst(kind, n, at % 4, here % 51))
+    let word = control_word((combination % 4 * 2 + direction % 2) * 26 + here / 4);
+    spread((word >> (here % 4 * 16)) % 65536)
 }

@@ -1,13 +1,20 @@
 // From frame to logical channel: which channel, subchannel, block and place a timeslot carries in each frame.
 ghost use mathlib.Core.Path.{_≡_};
-ghost use Rattle.frame_map.specs.Map.{mapOf, mapped};
+ghost use mathlib.Core.Bool.{false};
+ghost use Rattle.answers.specs.Outcome.{anyOf};
+ghost use Rattle.frame_map.specs.Combinations.{rowsOf};
+ghost use Rattle.frame_map.specs.Map.{outOfRange, mapOf, mapped};
+ghost use Rattle.frame_map.specs.Numbers.{standingNumbers, numbersOf, bytes};
+ghost use Rattle.frame_map.specs.Rows.{standing};
 
 mod control;
 mod traffic;
+mod unpack;
 
 use answers::Refusal;
 use control::control;
 use traffic::traffic;
+use unpack::unpack;
 
 // The logical channels.
 pub enum Kind {
@@ -53,30 +60,56 @@ pub enum Mapped {
 // FN is 0 to 2,715,647.
 const LAST_FRAME: u32 = 2_715_647;
 
+// No combination, or TN, FN or direction out of range.
+fn out_of_range(combination: u32, tn: u32, number: u32, direction: u32) -> bool
+    ensures { λ r. ⌜ r ≡ anyOf (outOfRange combination tn number direction) ⌝ }
+{
+    if tn > 7 {
+        return true;
+    }
+    if number > LAST_FRAME {
+        return true;
+    }
+    if direction > 1 {
+        return true;
+    }
+    if combination > 7 {
+        return true;
+    }
+    if combination == 3 {
+        return true;
+    }
+    combination == 0
+}
+
+// The bytes of what stands in a frame.
+fn standing_bytes(combination: u32, tn: u32, number: u32, direction: u32) -> u64
+    requires { ⌜ anyOf (outOfRange combination tn number direction) ≡ false ⌝ }
+    ensures { λ r. ⌜ r ≡ bytes (standingNumbers (standing (rowsOf combination tn direction) number)) ⌝ }
+{
+    if combination > 3 {
+        return control(combination, number, direction);
+    }
+    traffic(combination, tn, number)
+}
+
 // What a line of this combination and timeslot has in frame `number`, downlink (0) or uplink (1).
 pub fn map(combination: u32, tn: u32, number: u32, direction: u32) -> Mapped
     ensures { λ r. ⌜ mapped r ≡ mapOf combination tn number direction ⌝ }
 {
-    if tn > 7 {
+    if out_of_range(combination, tn, number, direction) {
         return Mapped::Refused(Refusal::OutOfRange);
     }
-    if number > LAST_FRAME {
-        return Mapped::Refused(Refusal::OutOfRange);
+    Mapped::Frame(unpack(standing_bytes(combination, tn, number, direction)))
+}
+
+// The same answer in eight bytes, the lowest first: the refusal (0 if there is none), the channel (0 for idle), the subchannel, how many blocks,
+// block and place, and block and place of the second. The quickest way to ask.
+pub fn map_bytes(combination: u32, tn: u32, number: u32, direction: u32) -> u64
+    ensures { λ r. ⌜ r ≡ bytes (numbersOf (mapOf combination tn number direction)) ⌝ }
+{
+    if out_of_range(combination, tn, number, direction) {
+        return 3;
     }
-    if direction > 1 {
-        return Mapped::Refused(Refusal::OutOfRange);
-    }
-    if combination > 7 {
-        return Mapped::Refused(Refusal::OutOfRange);
-    }
-    if combination > 3 {
-        return Mapped::Frame(control(combination, number, direction));
-    }
-    if combination == 3 {
-        return Mapped::Refused(Refusal::OutOfRange);
-    }
-    if combination == 0 {
-        return Mapped::Refused(Refusal::OutOfRange);
-    }
-    Mapped::Frame(traffic(combination, tn, number))
+    standing_bytes(combination, tn, number, direction)
 }

@@ -1,58 +1,96 @@
-// Combinations 1 and 2. Their frames differ only in how the four bursts of a block are dealt out.
+// Combinations 1 and 2, from a table of the 26 frames h. SACCH, which differs between timeslots, is computed.
 ghost use mathlib.Core.Path.{_≡_};
 ghost use Prim.Native.Nat.{_<_};
+ghost use Rattle.frame_map.specs.Codes.{trafficWord, sacchBytes};
 ghost use Rattle.frame_map.specs.Combinations.{rowsOf};
-ghost use Rattle.frame_map.specs.Map.{carried};
+ghost use Rattle.frame_map.specs.Numbers.{standingNumbers, bytes};
 ghost use Rattle.frame_map.specs.Rows.{standing};
-ghost use Rattle.frame_map.specs.Slots.{sacchAt};
-use crate::Blocks;
-use crate::Burst;
-use crate::Content;
-use crate::Kind;
-use crate::Place;
+
+// The bytes of timeslot 0 in each h: from the last to the first the refusal, channel, subchannel, blocks, block, place, block and place.
+fn traffic_word(key: u32) -> u64
+    requires { ⌜ key < 52 ⌝ }
+    ensures { λ r. ⌜ r ≡ trafficWord key ⌝ }
+{
+    match key {
+        // 1
+        0 => 0x04_05_00_00_02_00_01_00,
+        1 => 0x05_05_01_00_02_00_01_00,
+        2 => 0x06_05_02_00_02_00_01_00,
+        3 => 0x07_05_03_00_02_00_01_00,
+        4 => 0x04_00_00_01_02_00_01_00,
+        5 => 0x05_00_01_01_02_00_01_00,
+        6 => 0x06_00_02_01_02_00_01_00,
+        7 => 0x07_00_03_01_02_00_01_00,
+        8 => 0x04_01_00_02_02_00_01_00,
+        9 => 0x05_01_01_02_02_00_01_00,
+        10 => 0x06_01_02_02_02_00_01_00,
+        11 => 0x07_01_03_02_02_00_01_00,
+        12 => 0x00_00_00_00_01_00_02_00,
+        13 => 0x04_02_00_03_02_00_01_00,
+        14 => 0x05_02_01_03_02_00_01_00,
+        15 => 0x06_02_02_03_02_00_01_00,
+        16 => 0x07_02_03_03_02_00_01_00,
+        17 => 0x04_03_00_04_02_00_01_00,
+        18 => 0x05_03_01_04_02_00_01_00,
+        19 => 0x06_03_02_04_02_00_01_00,
+        20 => 0x07_03_03_04_02_00_01_00,
+        21 => 0x04_04_00_05_02_00_01_00,
+        22 => 0x05_04_01_05_02_00_01_00,
+        23 => 0x06_04_02_05_02_00_01_00,
+        24 => 0x07_04_03_05_02_00_01_00,
+        25 => 0x00_00_00_00_00_00_00_00,
+        // 2
+        26 => 0x02_05_00_00_02_00_01_00,
+        27 => 0x02_05_00_00_02_01_01_00,
+        28 => 0x03_05_01_00_02_00_01_00,
+        29 => 0x03_05_01_00_02_01_01_00,
+        30 => 0x02_00_00_01_02_00_01_00,
+        31 => 0x02_00_00_01_02_01_01_00,
+        32 => 0x03_00_01_01_02_00_01_00,
+        33 => 0x03_00_01_01_02_01_01_00,
+        34 => 0x02_01_00_02_02_00_01_00,
+        35 => 0x02_01_00_02_02_01_01_00,
+        36 => 0x03_01_01_02_02_00_01_00,
+        37 => 0x03_01_01_02_02_01_01_00,
+        38 => 0x00_00_00_00_01_00_02_00,
+        39 => 0x02_02_00_03_02_00_01_00,
+        40 => 0x02_02_00_03_02_01_01_00,
+        41 => 0x03_02_01_03_02_00_01_00,
+        42 => 0x03_02_01_03_02_01_01_00,
+        43 => 0x02_03_00_04_02_00_01_00,
+        44 => 0x02_03_00_04_02_01_01_00,
+        45 => 0x03_03_01_04_02_00_01_00,
+        46 => 0x03_03_01_04_02_01_01_00,
+        47 => 0x02_04_00_05_02_00_01_00,
+        48 => 0x02_04_00_05_02_01_01_00,
+        49 => 0x03_04_01_05_02_00_01_00,
+        50 => 0x03_04_01_05_02_01_01_00,
+        51 => 0x00_00_00_00_01_01_02_00,
+        _ => 0,
+    }
+}
 
 // The frames h = 12 (half 0) and h = 25 (half 1): 2 has SACCH of its two subchannels, 1 has SACCH at 12 in an even timeslot and at 25 in an
 // odd one. In each pair of timeslots the places stand 26 frames later than in the pair before.
-fn sacch(combination: u32, tn: u32, turn: u32, half: u32) -> Content
+fn sacch(combination: u32, tn: u32, turn: u32, half: u32) -> u64
     requires { ⌜ ((0 < combination) × (combination < 3)) × ((tn < 8) × ((turn < 4) × (half < 2))) ⌝ }
-    ensures { λ r. ⌜ carried r ≡ sacchAt combination tn turn half ⌝ }
+    ensures { λ r. ⌜ r ≡ sacchBytes combination tn turn half ⌝ }
 {
     if (combination == 1) & (half != tn % 2) {
-        return Content::Idle;
+        return 0;
     }
-    Content::Channel(Burst {
-        kind: Kind::Sacch,
-        subchannel: half & (combination - 1),
-        blocks: Blocks::One(Place {
-            block: 0,
-            place: (turn + 4 - tn / 2) % 4,
-        }),
-    })
+    let subchannel = half & (combination - 1);
+    let place = (turn + 4 - tn / 2) % 4;
+    0x100_0200 + subchannel as u64 * 0x1_0000 + place as u64 * 0x100_0000_0000
 }
 
-pub(crate) fn traffic(combination: u32, tn: u32, number: u32) -> Content
+pub(crate) fn traffic(combination: u32, tn: u32, number: u32) -> u64
     requires { ⌜ ((0 < combination) × (combination < 3)) × ((tn < 8) × (number < 2715648)) ⌝ }
-    ensures { λ r. ⌜ carried r ≡ standing (rowsOf combination tn 0) number ⌝ }
+    ensures { λ r. ⌜ r ≡ bytes (standingNumbers (standing (rowsOf combination tn 0) number)) ⌝ }
 {
     let h = number % 26;
-    let half = h / 13;
     if h % 13 == 12 {
-        return sacch(combination, tn, number / 26 % 4, half);
+        return sacch(combination, tn, number / 26 % 4, h / 13);
     }
-    let k = h - half;
-    let halved = combination - 1;
-    Content::Channel(Burst {
-        kind: Kind::Tch,
-        subchannel: k % 4 & halved,
-        blocks: Blocks::Two(
-            Place {
-                block: k / 4,
-                place: k % 4 >> halved,
-            },
-            Place {
-                block: (k / 4 + 5) % 6,
-                place: (k % 4 + 4) >> halved,
-            },
-        ),
-    })
+    traffic_word((combination - 1) * 26 + h)
 }

@@ -1,12 +1,13 @@
 -- What each answer of the C interface has: the outcome of the call in plain numbers. Where it is refused, `refusal` is document 01's number
 -- and all else is 0; where it is accepted, `refusal` is 0. Assumes nothing.
 use Prim.Native.Nat.{ℕ}
-use mathlib.Core.List.{List, [], _∷_}
+use mathlib.Core.List.{List}
 use mathlib.Core.Option.{Option, none, some}
 use Rattle.answers.specs.Outcome.{Outcome, refused, accepted}
 use Rattle.clock.specs.declared.Frame.{Frame}
 use Rattle.clock.specs.Clock.{primeOf}
-use Rattle.frame_map.specs.Channels.{Standing, kindNumber}
+use Rattle.frame_map.specs.Channels.{Standing}
+use Rattle.frame_map.specs.Numbers.{Numbers, numbersOf}
 use Rattle.tdma.specs.declared.TdmaSplit.{TdmaSplit}
 use Rattle.tdma.specs.declared.TdmaJoin.{TdmaJoin}
 use Rattle.tdma.specs.declared.TdmaPosition.{TdmaPosition}
@@ -34,15 +35,9 @@ abbrev pub hopNumbers : Outcome ℕ → TdmaHop
 hopNumbers (refused r) = record { refusal = r .number; arfcn = 0 }
 hopNumbers (accepted a) = record { refusal = 0; arfcn = a }
 
-abbrev pub emptyMap : ℕ → TdmaMap
-emptyMap refusal = record { refusal = refusal; channel = 0; subchannel = 0; blocks = 0; block = 0; place = 0; block2 = 0; place2 = 0 }
-
--- nothing stands in the frame: idle, `channel` 0. One row, or the two of a TCH burst (a third never stands there)
-abbrev pub standingNumbers : List Standing → TdmaMap
-standingNumbers [] = emptyMap 0
-standingNumbers (x ∷ []) = record { refusal = 0; channel = kindNumber (x .kind); subchannel = x .subchannel; blocks = 1; block = x .block; place = x .place; block2 = 0; place2 = 0 }
-standingNumbers (x ∷ y ∷ more) = record { refusal = 0; channel = kindNumber (x .kind); subchannel = x .subchannel; blocks = 2; block = x .block; place = x .place; block2 = y .block; place2 = y .place }
+abbrev pub mapFields : Numbers → TdmaMap
+mapFields n =
+    record { refusal = n .refusal; channel = n .channel; subchannel = n .subchannel; blocks = n .blocks; block = n .block; place = n .place; block2 = n .block2; place2 = n .place2 }
 
 abbrev pub mapNumbers : Outcome (List Standing) → TdmaMap
-mapNumbers (refused r) = emptyMap (r .number)
-mapNumbers (accepted xs) = standingNumbers xs
+mapNumbers m = mapFields (numbersOf m)

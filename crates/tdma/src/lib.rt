@@ -5,21 +5,16 @@ use clock::Frame;
 use clock::Joined;
 use clock::Prime;
 use clock::Split;
-use frame_map::Blocks;
-use frame_map::Burst;
-use frame_map::Content;
-use frame_map::Kind;
-use frame_map::Mapped;
 use hopping::Hopped;
 use hopping::Positioned;
 ghost use mathlib.Core.Path.{_≡_};
+ghost use Prim.Native.Nat.{_*_, _/_, _%_, _^_, _<_};
 ghost use Rattle.answers.specs.Outcome.{accepted};
 ghost use Rattle.answers.specs.Refusals.{refusalOf};
 ghost use Rattle.clock.specs.Clock.{splitOf, joinOf};
 ghost use Rattle.hopping.specs.Hopping.{positionOf, hopOf};
-ghost use Rattle.frame_map.specs.Channels.{kindNumber};
-ghost use Rattle.frame_map.specs.Map.{mapOf, inBlocks};
-ghost use Rattle.tdma.specs.Numbers.{splitNumbers, joinNumbers, positionNumbers, hopNumbers, emptyMap, mapNumbers};
+ghost use Rattle.frame_map.specs.Map.{mapOf};
+ghost use Rattle.tdma.specs.Numbers.{splitNumbers, joinNumbers, positionNumbers, hopNumbers, mapNumbers};
 
 // T1, T2, T3, and T3' where `given` is 1.
 #[repr(C)]
@@ -50,17 +45,17 @@ pub struct TdmaHop {
     pub arfcn: u32,
 }
 
-// The channel, 0 for idle, its subchannel, and as many blocks and places as `blocks` says.
+// The channel, 0 for idle, its subchannel, and as many blocks and places as `blocks` says. Bytes, so that the answer fits one register.
 #[repr(C)]
 pub struct TdmaMap {
-    pub refusal: u32,
-    pub channel: u32,
-    pub subchannel: u32,
-    pub blocks: u32,
-    pub block: u32,
-    pub place: u32,
-    pub block2: u32,
-    pub place2: u32,
+    pub refusal: u8,
+    pub channel: u8,
+    pub subchannel: u8,
+    pub blocks: u8,
+    pub block: u8,
+    pub place: u8,
+    pub block2: u8,
+    pub place2: u8,
 }
 
 // Document 01's number of a refusal.
@@ -189,68 +184,12 @@ pub extern "C" fn tdma_hop(ca: &[u16], mask: u64, hsn: u32, maio: u32, frame: u3
     }
 }
 
-// The number of a logical channel.
-fn kind_number(k: Kind) -> u32
-    ensures { λ r. ⌜ r ≡ kindNumber k ⌝ }
+// Byte i of a number.
+fn byte(bytes: u64, i: u32) -> u8
+    requires { ⌜ i < 8 ⌝ }
+    ensures { λ r. ⌜ r ≡ bytes / 2 ^ (8 * i) % 256 ⌝ }
 {
-    match k {
-        Kind::Tch => 1,
-        Kind::Sacch => 2,
-        Kind::Sdcch => 3,
-        Kind::Fcch => 4,
-        Kind::Sch => 5,
-        Kind::Bcch => 6,
-        Kind::Ccch => 7,
-        Kind::Rach => 8,
-    }
-}
-
-// An answer that is all zeros but for the refusal.
-fn map_empty(refusal: u32) -> TdmaMap
-    ensures { λ r. ⌜ r ≡ emptyMap refusal ⌝ }
-{
-    TdmaMap {
-        refusal,
-        channel: 0,
-        subchannel: 0,
-        blocks: 0,
-        block: 0,
-        place: 0,
-        block2: 0,
-        place2: 0,
-    }
-}
-
-// The answer of a frame that has a burst.
-fn map_burst(b: Burst) -> TdmaMap
-    ensures { λ r. ⌜ r ≡ mapNumbers (accepted (inBlocks (b .kind) (b .subchannel) (b .blocks))) ⌝ }
-{
-    let kind = b.kind;
-    let channel = kind_number(kind);
-    let subchannel = b.subchannel;
-    let blocks = b.blocks;
-    match blocks {
-        Blocks::One(p) => TdmaMap {
-            refusal: 0,
-            channel,
-            subchannel,
-            blocks: 1,
-            block: p.block,
-            place: p.place,
-            block2: 0,
-            place2: 0,
-        },
-        Blocks::Two(p, q) => TdmaMap {
-            refusal: 0,
-            channel,
-            subchannel,
-            blocks: 2,
-            block: p.block,
-            place: p.place,
-            block2: q.block,
-            place2: q.place,
-        },
-    }
+    ((bytes >> (8 * i)) % 256) as u8
 }
 
 // What a line of this combination and timeslot has in a frame, downlink (0) or uplink (1).
@@ -258,11 +197,15 @@ fn map_burst(b: Burst) -> TdmaMap
 pub extern "C" fn tdma_map(combination: u32, tn: u32, frame: u32, direction: u32) -> TdmaMap
     ensures { λ r. ⌜ r ≡ mapNumbers (mapOf combination tn frame direction) ⌝ }
 {
-    match frame_map::map(combination, tn, frame, direction) {
-        Mapped::Frame(content) => match content {
-            Content::Idle => map_empty(0),
-            Content::Channel(b) => map_burst(b),
-        },
-        Mapped::Refused(e) => map_empty(refusal_number(e)),
+    let bytes = frame_map::map_bytes(combination, tn, frame, direction);
+    TdmaMap {
+        refusal: byte(bytes, 0),
+        channel: byte(bytes, 1),
+        subchannel: byte(bytes, 2),
+        blocks: byte(bytes, 3),
+        block: byte(bytes, 4),
+        place: byte(bytes, 5),
+        block2: byte(bytes, 6),
+        place2: byte(bytes, 7),
     }
 }

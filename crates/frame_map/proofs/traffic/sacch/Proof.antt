@@ -1,25 +1,59 @@
 -- `sacch` meets its contract. Assumes nothing.
-use Rattle.frame_map.specs.Slots.{sacchAt}
+use Prim.Native.Nat.{_-_}
+use lib.Bits.{and-le-l}
+use native.Mathlib.Omega.{arith}
+use Rattle.frame_map.specs.Codes.{sacchBytes}
 use borrow.Author.Needs.{needs}
 use Rattle.frame_map.proofs.traffic.sacch.Statement.{statement}
 use Rattle.frame_map.proofs.traffic.sacch.Tie as tie
 
 returns : tie.Need-returns
-unfolding sacchAt
+unfolding sacchBytes
 returns c = simp (c .if1 .taken)
 
-sub-t6 : tie.Need-sub-t6
-sub-t6 c = search needs
+sub-subchannel : tie.Need-sub-subchannel
+sub-subchannel c = search needs
 
-add-t11 : tie.Need-add-t11
-add-t11 c = search needs
+add-place : tie.Need-add-place
+add-place c = search needs
 
-sub-t13 : tie.Need-sub-t13
-sub-t13 c = search needs
+sub-place : tie.Need-sub-place
+sub-place c = search needs
+
+cast-result : tie.Need-cast-result
+cast-result c = let h = and-le-l (c .before .args .half) (c .before .args .combination - 1) in omega (arith, h)
+
+mul-result : tie.Need-mul-result
+mul-result c = let h = and-le-l (c .before .args .half) (c .before .args .combination - 1) in omega (arith, h)
+
+add-result : tie.Need-add-result
+add-result c = let h = and-le-l (c .before .args .half) (c .before .args .combination - 1) in omega (arith, h)
+
+cast-result-2 : tie.Need-cast-result-2
+cast-result-2 c = search needs
+
+mul-result-2 : tie.Need-mul-result-2
+mul-result-2 c = search needs
+
+add-result-2 : tie.Need-add-result-2
+add-result-2 c = let h = and-le-l (c .before .args .half) (c .before .args .combination - 1) in omega (arith, h)
 
 returns-2 : tie.Need-returns-2
-unfolding sacchAt
+unfolding sacchBytes
 returns-2 c = simp (c .if1 .left)
 
 pub sacch-spec : {M : Type 1} → statement M
-sacch-spec = tie.close (tie.spec returns sub-t6 add-t11 sub-t13 returns-2)
+sacch-spec =
+    tie.close
+    (tie.spec
+    returns
+    sub-subchannel
+    add-place
+    sub-place
+    cast-result
+    mul-result
+    add-result
+    cast-result-2
+    mul-result-2
+    add-result-2
+    returns-2)

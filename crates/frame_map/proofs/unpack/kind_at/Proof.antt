@@ -1,8 +1,8 @@
 -- `kind_at` meets its contract. Assumes nothing.
 use borrow.Author.Tests.{ne-eqb}
-use Rattle.frame_map.specs.Slots.{kindAt}
-use Rattle.frame_map.proofs.control.kind_at.Statement.{statement}
-use Rattle.frame_map.proofs.control.kind_at.Tie as tie
+use Rattle.frame_map.specs.Codes.{kindAt}
+use Rattle.frame_map.proofs.unpack.kind_at.Statement.{statement}
+use Rattle.frame_map.proofs.unpack.kind_at.Tie as tie
 
 returns : tie.Need-returns
 unfolding kindAt
@@ -34,11 +34,11 @@ returns-7 c = simp (c .match .keys7)
 
 returns-8 : tie.Need-returns-8
 unfolding kindAt
-returns-8 c = simp (c .match .keys8)
-
-returns-9 : tie.Need-returns-9
-unfolding kindAt
-returns-9 c = simp (ne-eqb _ _ (c .match .rest .0 .0 .0 .0 .0 .0 .0 .1), ne-eqb _ _ (c .match .rest .0 .0 .0 .0 .0 .0 .1), ne-eqb _ _ (c .match .rest .0 .0 .0 .0 .0 .1), ne-eqb _ _ (c .match .rest .0 .0 .0 .0 .1), ne-eqb _ _ (c .match .rest .0 .0 .0 .1), ne-eqb _ _ (c .match .rest .0 .0 .1), ne-eqb _ _ (c .match .rest .0 .1))
+returns-8 c =
+    let r = c .match .rest in
+    simp (ne-eqb _ _ (r .0 .0 .0 .0 .0 .0 .1), ne-eqb _ _ (r .0 .0 .0 .0 .0 .1), ne-eqb _ _ (r .0 .0 .0 .0 .1), ne-eqb _ _ (r .0 .0 .0 .1), ne-eqb _ _ (r .0 .0 .1), ne-eqb _ _ (r .0 .1), ne-eqb _ _ (r .1))
 
 pub kind-at-spec : {M : Type 1} → statement M
-kind-at-spec = tie.close (tie.spec returns returns-2 returns-3 returns-4 returns-5 returns-6 returns-7 returns-8 returns-9)
+kind-at-spec =
+    tie.close
+    (tie.spec returns returns-2 returns-3 returns-4 returns-5 returns-6 returns-7 returns-8)
