@@ -16,7 +16,8 @@ use Rattle.frame_map.specs.Combinations.{combinations, among, isCombinat
 use Rattle.frame_map.specs.Map.{outOfRange, mapOf}
 use Rattle.frame_map.specs.Numbers.{numbersOf, bytes}
 use Rattle.frame_map.specs.Rows.{standing}
-use Rattle.frame_map.proofs.Unpacked.{numbersAt, numbers-back}
+use Rattle.frame_map.specs.Codes.{numbersAt}
+use Rattle.frame_map.proofs.Unpacked.{numbers-back}
 
 -- ---- which numbers are a combination's
 

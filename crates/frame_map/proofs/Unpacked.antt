@@ -1,7 +1,7 @@
 -- The eight bytes of an answer of `map` hold it whole: its numbers, and what stands in the frame, can be taken from them. Shown once over all
 -- maps. Assumes nothing.
 use Prim.Native.Nat.{ℕ, _<_}
-use mathlib.Core.Path.{_≡_, refl}
+use mathlib.Core.Path.{_≡_, refl, ap, _∙_}
 use mathlib.Core.Bool.{Bool, true, _&&_}
 use mathlib.Core.List.{List}
 use lib.Dec.{eqb}
@@ -13,15 +13,10 @@ use Rattle.frame_map.specs.Channels.{Standing}
 use Rattle.frame_map.specs.Rows.{numbered, each, from, standing}
 use Rattle.frame_map.specs.Combinations.{fullRate, halfRate, uncombined, combined, additional, sdcch8, combinations, rowsOf}
 use Rattle.frame_map.specs.Numbers.{Numbers, standingNumbers, bytes}
-use Rattle.frame_map.specs.Codes.{byteAt, kindAt, builtOf, standingAt}
+use Rattle.frame_map.specs.Codes.{kindAt, numbersAt, standingOf}
 use Rattle.frame_map.proofs.Same.{sameAll, all-same}
 use Rattle.frame_map.proofs.Repeat.{repeats}
 use Rattle.frame_map.proofs.AllMaps.{passes, all-maps}
-
--- the numbers in the bytes
-abbrev pub numbersAt : ℕ → Numbers
-numbersAt x =
-    record { refusal = byteAt x 0; channel = byteAt x 1; subchannel = byteAt x 2; blocks = byteAt x 3; block = byteAt x 4; place = byteAt x 5; block2 = byteAt x 6; place2 = byteAt x 7 }
 
 abbrev sameNumbers : Numbers → Numbers → Bool
 sameNumbers n m =
@@ -33,10 +28,10 @@ sameNumbers n m =
 
 -- both can be taken from the bytes
 unfoldable whole : List Standing → Bool
-whole xs = sameNumbers (numbersAt (bytes (standingNumbers xs))) (standingNumbers xs) && sameAll (standingAt (bytes (standingNumbers xs))) xs
+whole xs = sameNumbers (numbersAt (bytes (standingNumbers xs))) (standingNumbers xs) && sameAll (standingOf (standingNumbers xs)) xs
 
 tested : every (passes whole) combinations ≡ true
-unfolding passes every whole sameAll standingNumbers builtOf kindAt repeats allBelow numbered each from standing fullRate halfRate uncombined combined additional sdcch8 combinations
+unfolding passes every whole sameAll standingNumbers standingOf kindAt repeats allBelow numbered each from standing fullRate halfRate uncombined combined additional sdcch8 combinations
 tested = refl
 
 -- eight equal numbers make equal answers
@@ -67,13 +62,15 @@ numbers-same n m e =
 
 module _ (tn : ℕ) (hn : tn < 8) (d : ℕ) (hd : d < 2) (fn : ℕ) (n : ℕ) where
   passed : whole (standing (rowsOf n tn d) fn) ≡ true
-  unfolding whole standingNumbers sameAll builtOf
+  unfolding whole standingNumbers sameAll standingOf
   passed = all-maps whole refl tn hn d hd fn tested n
-
-  pub standing-back : standingAt (bytes (standingNumbers (standing (rowsOf n tn d) fn))) ≡ standing (rowsOf n tn d) fn
-  unfolding whole
-  standing-back = all-same _ _ (and-right (sameNumbers (numbersAt (bytes (standingNumbers (standing (rowsOf n tn d) fn)))) (standingNumbers (standing (rowsOf n tn d) fn))) _ passed)
 
   pub numbers-back : numbersAt (bytes (standingNumbers (standing (rowsOf n tn d) fn))) ≡ standingNumbers (standing (rowsOf n tn d) fn)
   unfolding whole
   numbers-back = numbers-same _ _ (and-left (sameNumbers (numbersAt (bytes (standingNumbers (standing (rowsOf n tn d) fn)))) (standingNumbers (standing (rowsOf n tn d) fn))) _ passed)
+
+  pub standing-back : standingOf (numbersAt (bytes (standingNumbers (standing (rowsOf n tn d) fn)))) ≡ standing (rowsOf n tn d) fn
+  unfolding whole
+  standing-back =
+      ap standingOf numbers-back
+      ∙ all-same _ _ (and-right (sameNumbers (numbersAt (bytes (standingNumbers (standing (rowsOf n tn d) fn)))) (standingNumbers (standing (rowsOf n tn d) fn))) _ passed)

@@ -9,7 +9,7 @@ use Rattle.frame_map.specs.declared.Kind.the-variants.{Tch, Sacch, Sdcch
 use Rattle.frame_map.specs.Channels.{Standing, kindNumber, at}
 use Rattle.frame_map.specs.Rows.{standing}
 use Rattle.frame_map.specs.Combinations.{rowsOf}
-use Rattle.frame_map.specs.Numbers.{standingNumbers, bytes}
+use Rattle.frame_map.specs.Numbers.{Numbers, standingNumbers, bytes}
 
 -- ---- 4 to 7
 
@@ -55,11 +55,13 @@ kindAt n =
     (cond (eqb n 2) Sacch
     (cond (eqb n 3) Sdcch (cond (eqb n 4) Fcch (cond (eqb n 5) Sch (cond (eqb n 6) Bcch (cond (eqb n 7) Ccch Rach))))))
 
--- what stands in a frame with these numbers
-unfoldable pub builtOf : ℕ → ℕ → ℕ → ℕ → ℕ → ℕ → ℕ → List Standing
-builtOf channel s blocks block place block2 place2 =
-    cond (eqb channel 0) []
-    (at (kindAt channel) s block place ∷ cond (eqb blocks 2) (at (kindAt channel) s block2 place2 ∷ []) [])
+abbrev pub numbersAt : ℕ → Numbers
+numbersAt x =
+    record { refusal = byteAt x 0; channel = byteAt x 1; subchannel = byteAt x 2; blocks = byteAt x 3; block = byteAt x 4; place = byteAt x 5; block2 = byteAt x 6; place2 = byteAt x 7 }
 
-abbrev pub standingAt : ℕ → List Standing
-standingAt x = builtOf (byteAt x 1) (byteAt x 2) (byteAt x 3) (byteAt x 4) (byteAt x 5) (byteAt x 6) (byteAt x 7)
+-- what stands in a frame with these numbers
+unfoldable pub standingOf : Numbers → List Standing
+standingOf n =
+    cond (eqb (n .channel) 0) []
+    (at (kindAt (n .channel)) (n .subchannel) (n .block) (n .place)
+    ∷ cond (eqb (n .blocks) 2) (at (kindAt (n .channel)) (n .subchannel) (n .block2) (n .place2) ∷ []) [])

@@ -1,7 +1,7 @@
 // What a frame carries, from its eight bytes.
 ghost use mathlib.Core.Path.{_≡_};
 ghost use Prim.Native.Nat.{_<_};
-ghost use Rattle.frame_map.specs.Codes.{byteAt, kindAt, standingAt};
+ghost use Rattle.frame_map.specs.Codes.{byteAt, kindAt, numbersAt, standingOf};
 ghost use Rattle.frame_map.specs.Map.{carried};
 use crate::Blocks;
 use crate::Burst;
@@ -33,7 +33,7 @@ fn kind_at(n: u32) -> Kind
 }
 
 pub(crate) fn unpack(bytes: u64) -> Content
-    ensures { λ r. ⌜ carried r ≡ standingAt bytes ⌝ }
+    ensures { λ r. ⌜ carried r ≡ standingOf (numbersAt bytes) ⌝ }
 {
     let channel = byte(bytes, 1);
     if channel == 0 {

@@ -1,7 +1,8 @@
 -- `map` meets its contract: it is refused exactly out of range, and else what stands in the frame is taken from its bytes. Assumes nothing.
 use mathlib.Core.Path.{sym, ap, _∙_}
 use Rattle.answers.specs.Outcome.{accepted}
-use Rattle.frame_map.specs.Codes.{standingAt}
+use Rattle.frame_map.specs.Codes.{numbersAt, standingOf}
+use Prim.Native.Nat.{ℕ}
 use Rattle.frame_map.proofs.Range.{other-ranges, accepted-map, refused-map}
 use Rattle.frame_map.proofs.Unpacked.{standing-back}
 use borrow.Author.Needs.{needs}
@@ -27,7 +28,7 @@ returns-2 c =
     let e = sym (b .before .out-of-range .ensures) ∙ b .if1 .left in
     let r = other-ranges (x .combination) (x .tn) (x .number) (x .direction) e in
     ap accepted (c .unpack .ensures
-    ∙ (ap standingAt (c .before .standing-bytes .ensures) ∙ standing-back (x .tn) (r .0) (x .direction) (r .2) (x .number) (x .combination)))
+    ∙ (ap (λ (x : ℕ). standingOf (numbersAt x)) (c .before .standing-bytes .ensures) ∙ standing-back (x .tn) (r .0) (x .direction) (r .2) (x .number) (x .combination)))
     ∙ sym (accepted-map _ _ _ _ e)
 
 pub map-spec : {M : Type 1} → statement M

@@ -1,6 +1,7 @@
 -- `tdma::tdma_map` meets its contract: the bytes of `map_bytes`, one by one. Assumes nothing.
 use mathlib.Core.Path.{ap, _∙_}
-use Rattle.frame_map.proofs.Unpacked.{numbersAt, numbers, eight}
+use Rattle.frame_map.proofs.Unpacked.{numbers, eight}
+use Rattle.frame_map.specs.Codes.{numbersAt}
 use Rattle.frame_map.proofs.Range.{map-numbers}
 use Rattle.tdma.specs.Numbers.{mapFields}
 use borrow.Author.Needs.{needs}
