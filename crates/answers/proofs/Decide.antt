@@ -4,14 +4,14 @@
 use Prim.Native.Nat.{ℕ, zero, suc, _≤_, _<_}
 use native.Mathlib.Nat.{lt-trans, le-of-lt, le-refl}
 use mathlib.Core.Path.{_≡_, refl, sym, ap, _∙_, subst}
-use mathlib.Core.Bool.{Bool, true, false, cond}
+use mathlib.Core.Bool.{Bool, true, false, _||_, cond}
 use mathlib.Core.List.{List, [], _∷_, List·Memᴰ, List·Memᴰ·not-nil, List·Memᴰ·cases-cons, List·Memᴰ·head, List·Memᴰ·tail}
 use mathlib.Core.Logic.{⊎-elim}
 use native.Mathlib.Omega.{arith}
 use borrow.Author.Tests.{ltb-true}
 use lib.Dec.{ltb}
-use Rattle.answers.specs.Outcome.{Refused, Outcome, refused, accepted, Cause, anyOf, decide, ascendingFrom}
-use Rattle.answers.proofs.Tests.{and-left, and-right, or-left, or-right, or-none, not-both}
+use Rattle.answers.specs.Outcome.{Refused, Outcome, refused, accepted, alone, Cause, anyOf, decide, ascendingFrom}
+use Rattle.answers.proofs.Tests.{and-left, and-right, or-left, or-right, or-none, or-false, not-both}
 
 -- ---- at a call's returns
 
@@ -43,6 +43,18 @@ holds-none [] h = tt
 holds-none (true ∷ bs) h = not-both refl h
 holds-none (false ∷ bs) h = (refl, holds-none bs h)
 
+-- the conditions as code combines them: nothing follows the last
+abbrev pub combined : List Bool → Bool
+combined [] = false
+combined (b ∷ []) = b
+combined (b ∷ d ∷ bs) = b || combined (d ∷ bs)
+
+pub any-combined : (bs : List Bool) → combined bs ≡ anyOf bs
+unfolding anyOf
+any-combined [] = refl
+any-combined (b ∷ []) = sym (or-false b)
+any-combined (b ∷ d ∷ bs) = ap (λ (t : Bool). b || t) (any-combined (d ∷ bs))
+
 module _ {A : Type 0} (c : Cause) (cs : List Cause) (answer : A) where
   -- the first cause applies: it refuses
   pub first : anyOf (c .conditions) ≡ true → decide (c ∷ cs) answer ≡ refused (c .refusal)
@@ -65,6 +77,22 @@ pub accepts : {A : Type 0} (answer : A) → decide [] answer ≡ accepted answer
 unfolding decide
 accepts answer = refl
 
+-- no condition of any cause holds
+abbrev pub NoCause : List Cause → Type 0
+NoCause [] = Unit
+NoCause (c ∷ cs) = None (c .conditions) × NoCause cs
+
+-- what holds of every refusal, and of the answer where no cause applies, holds of what is decided
+pub decided : {A : Type 0} (cs : List Cause) (answer : A) (P : Outcome A → Type 0) → ((r : Refused) → P (refused r)) → (NoCause cs → P (accepted answer))
+    → P (decide cs answer)
+unfolding decide
+decided [] answer P bad good = good tt
+decided (c ∷ cs) answer P bad good = go (anyOf (c .conditions)) refl (decided cs answer P bad)
+  where
+    go : (b : Bool) → anyOf (c .conditions) ≡ b → ((NoCause cs → P (accepted answer)) → P (decide cs answer)) → P (cond b (refused (c .refusal)) (decide cs answer))
+    go true e more = bad (c .refusal)
+    go false e more = more (λ w. good (holds-none (c .conditions) e, w))
+
 -- a call whose answer is computed from another's, for the same causes
 abbrev pub answered : {A B : Type 0} → (A → B) → Outcome A → Outcome B
 answered f (refused r) = refused r
@@ -79,6 +107,35 @@ decide-answered f (c ∷ cs) a = go (anyOf (c .conditions)) (decide-answered f c
         → cond t (refused (c .refusal)) (decide cs (f a)) ≡ answered f (cond t (refused (c .refusal)) (decide cs a))
     go true e = refl
     go false e = e
+
+-- ---- at a call's returns, by the place of the cause
+
+-- cause i of the list applies, and none before it
+abbrev pub Applies : ℕ → List Cause → Type 0
+Applies i [] = ⊥
+Applies zero (c ∷ cs) = combined (c .conditions) ≡ true
+Applies (suc i) (c ∷ cs) = (combined (c .conditions) ≡ false) × Applies i cs
+
+-- none applies
+abbrev pub NoneApplies : List Cause → Type 0
+NoneApplies [] = Unit
+NoneApplies (c ∷ cs) = (combined (c .conditions) ≡ false) × NoneApplies cs
+
+-- the refusal of cause i
+abbrev pub refusalAt : ℕ → List Cause → Refused
+refusalAt i [] = alone 0
+refusalAt zero (c ∷ cs) = c .refusal
+refusalAt (suc i) (c ∷ cs) = refusalAt i cs
+
+module _ {A : Type 0} (answer : A) where
+  pub refused-by : (i : ℕ) (cs : List Cause) → Applies i cs → refused (refusalAt i cs) ≡ decide cs answer
+  refused-by i [] h = absurd h
+  refused-by zero (c ∷ cs) h = sym (first c cs answer (sym (any-combined (c .conditions)) ∙ h))
+  refused-by (suc i) (c ∷ cs) h = refused-by i cs (h .1) ∙ sym (rest c cs answer (sym (any-combined (c .conditions)) ∙ h .0))
+
+  pub accepted-by : (cs : List Cause) → NoneApplies cs → accepted answer ≡ decide cs answer
+  accepted-by [] h = sym (accepts answer)
+  accepted-by (c ∷ cs) h = accepted-by cs (h .1) ∙ sym (rest c cs answer (sym (any-combined (c .conditions)) ∙ h .0))
 
 -- ---- for the reader
 

@@ -1,10 +1,12 @@
--- Laws of `allBelow` and `least`. Assumes nothing.
+-- Laws of `allBelow`, `anyBelow` and `least`. Assumes nothing.
 use Prim.Native.Nat.{ℕ, zero, suc, _<_}
 use mathlib.Core.Path.{_≡_, refl, sym, ap, _∙_, subst}
 use mathlib.Core.Bool.{Bool, true, false, cond}
 use mathlib.Core.Logic.{_⊎_, inl, inr, ⊎-elim}
-use native.Mathlib.Nat.{not-suc-le-zero, le-of-suc-le-suc, eq-or-lt-of-le}
+use native.Mathlib.Nat.{not-suc-le-zero, le-of-suc-le-suc, eq-or-lt-of-le, le-refl}
 use native.Mathlib.Omega.{arith}
+use lib.Dec.{ltb}
+use borrow.Author.Tests.{lt-ltb, le-ltb}
 use Rattle.answers.specs.Search.{allBelow, anyBelow, least}
 use Rattle.answers.proofs.Tests.{and-left, and-right, and-both, or-left, or-right, or-none, not-both}
 
@@ -78,3 +80,9 @@ module _ (test : ℕ → Bool) where
   -- and it is the least
   pub least-first : (n d : ℕ) (w : First n) → least test n d ≡ w .place
   least-first n d w = least-at n d (w .place) (w .below) (w .passes) (w .none)
+
+  -- some number below n passes exactly if the least does not fall back to n
+  pub any-least : (n : ℕ) → anyBelow test n ≡ ltb (least test n n) n
+  any-least n =
+      ⊎-elim (λ w. any-at n (w .place) (w .below) (w .passes) ∙ sym (ap (λ (k : ℕ). ltb k n) (least-first n n w) ∙ lt-ltb (w .place) n (w .below)))
+      (λ f. any-none n f ∙ sym (ap (λ (k : ℕ). ltb k n) (least-none n n f) ∙ le-ltb n n (le-refl n))) (first-or-none n)

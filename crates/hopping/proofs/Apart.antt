@@ -1,5 +1,5 @@
 -- Two lines of one timeslot that do not clash have different ARFCNs in every frame. First where one line stands, then two lines. Assumes nothing.
-use Prim.Native.Nat.{ℕ, zero, suc, _+_, _-_, _%_, _<_}
+use Prim.Native.Nat.{ℕ, zero, suc, _+_, _-_, _%_, _≤_, _<_}
 use mathlib.Core.Path.{_≡_, refl, sym, ap, _∙_, subst}
 use mathlib.Core.Bool.{Bool, true, false, not, _&&_}
 use mathlib.Core.List.{List}
@@ -9,7 +9,7 @@ use native.Mathlib.Decide.{decLt}
 use native.Mathlib.Omega.{arith}
 use lib.Dec.{ltb, leb, eqb, eqb·suc-zero}
 use lib.ListN.{length, getD}
-use borrow.Author.Tests.{ltb-true, eqb-true, eqb-false, eq-eqb, le-leb, not-true, not-false}
+use borrow.Author.Tests.{ltb-true, leb-true, eqb-true, eqb-false, eq-eqb, le-leb, not-true, not-false}
 use Rattle.answers.proofs.Search.{all-at, any-at}
 use Rattle.answers.proofs.Tests.{and-left, and-right, and-both, and-rest, or-rest, not-both}
 use Rattle.clock.specs.Clock.{partsOf}
@@ -98,6 +98,10 @@ mask-apart m k hsn hsn′ a b fn ha hb n e =
 -- ---- the cell allocation
 
 module _ (ca : List ℕ) (h : isAllocation ca ≡ true) where
+  pub at-most-64 : length ca ≤ 64
+  unfolding isAllocation
+  at-most-64 = leb-true _ _ (and-right (ltb 0 (length ca)) _ (and-left (ltb 0 (length ca) && leb (length ca) 64) _ h))
+
   placed : (k : ℕ) → k < length ca → inPlace ca k ≡ true
   unfolding isAllocation
   placed k l = all-at (inPlace ca) (length ca) (and-right (ltb 0 (length ca) && leb (length ca) 64) _ h) k l

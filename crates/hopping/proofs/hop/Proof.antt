@@ -1,24 +1,19 @@
 -- `hopping::hop` meets its contract: the position is the one of `position`, whose causes are the rest of hop's. Assumes nothing.
-use Prim.Native.Nat.{ℕ, _≤_}
+use Prim.Native.Nat.{ℕ}
 use mathlib.Core.Path.{_≡_, sym, ap, _∙_}
-use mathlib.Core.Bool.{true, false, not, _&&_}
+use mathlib.Core.Bool.{true, false, not}
 use mathlib.Core.List.{List}
 use native.Mathlib.Omega.{arith}
-use lib.Dec.{ltb, leb}
 use lib.ListN.{length, getD}
 use borrow.Author.Needs.{needs}
-use borrow.Author.Tests.{not-true, not-false, leb-true}
+use borrow.Author.Tests.{not-true, not-false}
 use Rattle.answers.specs.Outcome.{Refused, refused, accepted, alone}
 use Rattle.answers.proofs.Decide.{stops, passes, answered, decide-answered}
-use Rattle.answers.proofs.Tests.{and-left, and-right}
 use Rattle.hopping.specs.Allocation.{isAllocation}
 use Rattle.hopping.specs.Hopping.{positionCauses, linePosition, positionOf, hopOf, positionSays}
+use Rattle.hopping.proofs.Apart.{at-most-64}
 use Rattle.hopping.proofs.hop.Statement.{statement}
 use Rattle.hopping.proofs.hop.Tie as tie
-
-allocation-length : (ca : List ℕ) → isAllocation ca ≡ true → length ca ≤ 64
-unfolding isAllocation
-allocation-length ca h = leb-true _ _ (and-right (ltb 0 (length ca)) _ (and-left (ltb 0 (length ca) && leb (length ca) 64) _ h))
 
 module _ (ca : List ℕ) (m hsn maio fn : ℕ) where
   no-allocation : isAllocation ca ≡ false → refused (alone 1) ≡ hopOf ca m hsn maio fn
@@ -48,7 +43,7 @@ returns : tie.Need-returns
 returns c = no-allocation _ _ _ _ _ (sym (c .before .is-allocation .ensures) ∙ not-true _ (c .if1 .taken))
 
 cast-length : tie.Need-cast-length
-cast-length c = omega (arith, allocation-length _ (valid c))
+cast-length c = omega (arith, at-most-64 _ (valid c))
 
 position-requires : tie.Need-position-requires
 position-requires c κs = search needs
