@@ -5,11 +5,11 @@ use mathlib.Core.List.{List}
 use mathlib.Core.Bool.{Bool, true, false, not, _||_}
 use native.Mathlib.Omega.{arith}
 use lib.Dec.{eqb, ltb}
-use borrow.Author.Tests.{eqb-true, eqb-false, ne-eqb, ltb-true, ltb-false}
+use borrow.Author.Tests.{eqb-true, eqb-false, ne-eqb, ltb-true, ltb-false, not-true, not-false}
 use Rattle.answers.specs.Outcome.{Outcome, alone, refused, accepted, anyOf}
 use Rattle.answers.specs.Search.{allBelow}
 use Rattle.answers.proofs.Search.{all-at}
-use Rattle.answers.proofs.Decide.{holds, none-holds, holds-none, first, rest, accepts}
+use Rattle.answers.proofs.Decide.{holds-none, first, rest, accepts}
 use Rattle.answers.proofs.Tests.{or-none, or-rest, refute, not-both}
 use Rattle.frame_map.specs.Channels.{Standing}
 use Rattle.frame_map.specs.Combinations.{combinations, among, isCombination, rowsOf}
@@ -44,14 +44,13 @@ combination-known c h y z =
     (or-rest (eqb c 0 || eqb c 3) _ (or-none (ne-eqb c 0 y) (ne-eqb c 3 z))
     (all-at (λ (k : ℕ). (eqb k 0 || eqb k 3) || isCombination k) 8 eight-tested c h))
 
--- with the other tests passed, only combination 0 is left
-pub combination-test : (c tn n d : ℕ) → c < 8 → (c ≡ 3 → ⊥) → ltb 7 tn ≡ false → ltb 2715647 n ≡ false → ltb 1 d ≡ false → eqb c 0 ≡ anyOf (outOfRange c tn n d)
-unfolding anyOf
-combination-test c tn n d h z a b e = go (eqb c 0) refl
+-- with the others passed, only combination 0 is left
+pub combination-last : (c : ℕ) → c < 8 → (c ≡ 3 → ⊥) → not (eqb c 0) ≡ isCombination c
+combination-last c h z = go (eqb c 0) refl
   where
-    go : (t : Bool) → eqb c 0 ≡ t → t ≡ anyOf (outOfRange c tn n d)
-    go true q = sym (holds 0 (outOfRange c tn n d) (combination-zero c (eqb-true c 0 q)))
-    go false q = sym (none-holds (outOfRange c tn n d) (combination-known c h (eqb-false c 0 q) z, (a, (b, (e, tt)))))
+    go : (t : Bool) → eqb c 0 ≡ t → not t ≡ isCombination c
+    go true q = sym (not-true _ (combination-zero c (eqb-true c 0 q)))
+    go false q = sym (not-false _ (combination-known c h (eqb-false c 0 q) z))
 
 -- ---- the numbers of a request that is not refused
 

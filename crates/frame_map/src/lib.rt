@@ -2,7 +2,7 @@
 ghost use mathlib.Core.Path.{_≡_};
 ghost use mathlib.Core.Bool.{false};
 ghost use Rattle.answers.specs.Outcome.{anyOf};
-ghost use Rattle.frame_map.specs.Combinations.{rowsOf};
+ghost use Rattle.frame_map.specs.Combinations.{isCombination, rowsOf};
 ghost use Rattle.frame_map.specs.Map.{outOfRange, mapOf, mapped};
 ghost use Rattle.frame_map.specs.Numbers.{standingNumbers, numbersOf, bytes};
 ghost use Rattle.frame_map.specs.Rows.{standing};
@@ -60,26 +60,33 @@ pub enum Mapped {
 // FN is 0 to 2,715,647.
 const LAST_FRAME: u32 = 2_715_647;
 
+// The number is a combination's.
+pub fn is_combination(combination: u32) -> bool
+    ensures { λ r. ⌜ r ≡ isCombination combination ⌝ }
+{
+    if combination > 7 {
+        return false;
+    }
+    if combination == 3 {
+        return false;
+    }
+    combination != 0
+}
+
 // No combination, or TN, FN or direction out of range.
 fn out_of_range(combination: u32, tn: u32, number: u32, direction: u32) -> bool
     ensures { λ r. ⌜ r ≡ anyOf (outOfRange combination tn number direction) ⌝ }
 {
+    if !is_combination(combination) {
+        return true;
+    }
     if tn > 7 {
         return true;
     }
     if number > LAST_FRAME {
         return true;
     }
-    if direction > 1 {
-        return true;
-    }
-    if combination > 7 {
-        return true;
-    }
-    if combination == 3 {
-        return true;
-    }
-    combination == 0
+    direction > 1
 }
 
 // The bytes of what stands in a frame.
