@@ -1,0 +1,162 @@
+-- The third demand, specs/CollisionFree.antt, proved: by induction on the list of calls, each call keeps the history sound and the cell as the
+-- history says; and from a sound history, two channels in one spot are one. Assumes nothing.
+use Prim.Native.Nat.{ℕ, _<_}
+use mathlib.Core.Path.{_≡_, refl, sym, ap, _∙_, subst}
+use mathlib.Core.Bool.{Bool, true, false, not}
+use mathlib.Core.List.{List, [], _∷_, List·Memᴰ}
+use mathlib.Core.Logic.{⊎-elim}
+use mathlib.Core.Option.{some}
+use lib.Dec.{eqb}
+use borrow.Author.Tests.{eqb-true, eqb-false, not-true}
+use Rattle.answers.proofs.Tests.{and-left, and-right, not-both}
+use Rattle.hopping.specs.Masks.{oneAtOrAbove}
+use Rattle.hopping.proofs.Apart.{Fit, apart}
+use Rattle.frame_map.specs.Channels.{isCommon}
+use Rattle.frame_map.specs.Combinations.{rowsOf}
+use Rattle.frame_map.specs.Rows.{Row, stands, told}
+use Rattle.frame_map.proofs.OneChannel.{rows-one-channel}
+use Rattle.cell.specs.declared.Cell.{Cell}
+use Rattle.cell.specs.State.{Values, allocation}
+use Rattle.cell.specs.Calls.{Step, physical, startOf, changed}
+use Rattle.cell.specs.History.{Call, Made, openedWith, cellFrom}
+use Rattle.cell.specs.Carried.{Channel, subchannel, commonPart, lineNumber, isOf, Spot, Stands}
+use Rattle.cell.specs.CollisionFree.{CollisionFree, Run, calling, made, next, run, begin, ThirdDemand, Answered, Promised, handed, ThirdDemandOfCode}
+use Rattle.cell.proofs.Sound.{allowed-within, allowed-maio, allowed-tn, Sound, sound-first, Kept, call-kept}
+use Rattle.cell.proofs.LineAnswer.{line-is}
+use Rattle.cell.proofs.Shown.{stands-shown, shown-stands}
+use Rattle.cell.proofs.Begun.{Begun, start-begun}
+
+-- ---- two channels in one spot are one
+
+module _ (first : Cell) (begun : Begun first) (past : List Made) (sound : Sound first past) (spot : Spot) (hd : spot .direction < 2) where
+  -- of one line, they are of one subchannel or of the common part
+  of-line : (n : ℕ) (x y : Channel) (r q : Row) → lineNumber x ≡ n → lineNumber y ≡ n → (r .kind ≡ q .kind) × (r .subchannel ≡ q .subchannel)
+      → isOf x (told r) ≡ true → isOf y (told q) ≡ true → x ≡ y
+  of-line n (subchannel i s) (subchannel j t) r q a b e hx hy =
+      let u : r .subchannel ≡ s = eqb-true _ _ (and-right (not (isCommon (r .kind))) _ hx) in
+      let w : q .subchannel ≡ t = eqb-true _ _ (and-right (not (isCommon (q .kind))) _ hy) in
+      same (a ∙ sym b) (sym u ∙ (e .1 ∙ w))
+    where
+      same : i ≡ j → s ≡ t → subchannel i s ≡ subchannel j t
+      same p o = cc
+  of-line n (subchannel i s) (commonPart j) r q a b e hx hy =
+      not-both {b = isCommon (q .kind)} hy (ap isCommon (sym (e .0)) ∙ not-true _ (and-left (not (isCommon (r .kind))) _ hx))
+  of-line n (commonPart i) (subchannel j t) r q a b e hx hy =
+      not-both {b = isCommon (r .kind)} hx (ap isCommon (e .0) ∙ not-true _ (and-left (not (isCommon (q .kind))) _ hy))
+  of-line n (commonPart i) (commonPart j) r q a b e hx hy = ap commonPart (a ∙ sym b)
+
+  fit : (n : ℕ) (v : Values) → openedWith past n ≡ some v → Fit (allocation first) (physical v)
+  fit n v e =
+      let a = sound .allowed n v e in
+      record {
+        within = subst (λ (k : ℕ). oneAtOrAbove (v .mask) k ≡ false) (sym (begun .known-length)) (allowed-within first n v a);
+        maio-below = allowed-maio first n v a;
+      }
+
+  -- of two lines: their timeslots or ARFCNs differ
+  of-lines : (x y : Channel) → (lineNumber x ≡ lineNumber y → ⊥) → Stands first past x spot → Stands first past y spot → ⊥
+  of-lines x y d a b =
+      ⊎-elim
+      (λ c. apart (allocation first) (physical v) (physical w) (begun .is-allocation) fv fw (a .in-timeslot ∙ sym (b .in-timeslot)) c (spot .fn) (a .on-arfcn ∙ sym (b .on-arfcn)))
+      (λ c. apart (allocation first) (physical w) (physical v) (begun .is-allocation) fw fv (b .in-timeslot ∙ sym (a .in-timeslot)) c (spot .fn) (b .on-arfcn ∙ sym (a .on-arfcn)))
+      (sound .clear (lineNumber x) (lineNumber y) v w d (a .is-open) (b .is-open))
+    where
+      v : Values
+      v = a .values
+
+      w : Values
+      w = b .values
+
+      fv : Fit (allocation first) (physical v)
+      fv = fit (lineNumber x) v (a .is-open)
+
+      fw : Fit (allocation first) (physical w)
+      fw = fit (lineNumber y) w (b .is-open)
+
+  one-spot : (x y : Channel) → Stands first past x spot → Stands first past y spot → x ≡ y
+  one-spot x y a b = go (eqb (lineNumber x) (lineNumber y)) refl
+    where
+      go : (t : Bool) → eqb (lineNumber x) (lineNumber y) ≡ t → x ≡ y
+      go false q = absurd (of-lines x y (eqb-false _ _ q) a b)
+      go true q =
+          of-line (lineNumber y) x y (a .row) (b .row) e refl
+          (rows-one-channel (v .tn) (allowed-tn first (lineNumber x) v (sound .allowed (lineNumber x) v (a .is-open))) (spot .direction) hd (spot .fn) (v .combination) (a .row) (b .row) (a .of-map) of-map (a .in-frame) (b .in-frame))
+          (a .of-channel) (b .of-channel)
+        where
+          v : Values
+          v = a .values
+
+          e : lineNumber x ≡ lineNumber y
+          e = eqb-true _ _ q
+
+          values : b .values ≡ v
+          values = let z : some (b .values) ≡ some v = sym (b .is-open) ∙ (ap (openedWith past) (sym e) ∙ a .is-open) in let w : b .values ≡ v = cc in w
+
+          of-map : List·Memᴰ (b .row) (rowsOf (v .combination) (v .tn) (spot .direction))
+          of-map = subst (λ (u : Values). List·Memᴰ (b .row) (rowsOf (u .combination) (u .tn) (spot .direction))) values (b .of-map)
+
+-- ---- from a sound history to the claim
+
+free-of : (first : Cell) → Begun first → (past : List Made) → Sound first past → CollisionFree first past (cellFrom first past)
+free-of first begun past sound =
+    record {
+      as-listed = refl;
+      apart = λ x y spot hd a b. one-spot first begun past sound spot hd x y a b;
+      line = λ n v fn d e hf hd. line-is first past sound n v e fn hf d hd;
+      shown = λ x spot hf hd a. stands-shown first past sound x spot hf hd a;
+      stands = λ x spot hf hd a. shown-stands first past sound x spot hf hd a;
+    }
+
+-- what every run has
+pub record Held (first : Cell) (r : Run) : Type 0 where
+  pub as-listed : r .cell ≡ cellFrom first (r .past)
+  pub sound : Sound first (r .past)
+
+collision-free-of : (first : Cell) → Begun first → (r : Run) → Held first r → CollisionFree first (r .past) (r .cell)
+collision-free-of first begun r h = subst (λ (c : Cell). CollisionFree first (r .past) c) (sym (h .as-listed)) (free-of first begun (r .past) (h .sound))
+
+begin-held : (first : Cell) → Begun first → Held first (begin first)
+begin-held first begun = record { as-listed = begun .nothing-open; sound = sound-first first }
+
+-- a call whose outcome is the definition's keeps it
+step-held : (first : Cell) (r : Run) → Held first r → (x : Call) (s : Step) → s ≡ calling (r .cell) x → Held first (record { cell = s .cell; past = made x s ∷ r .past })
+step-held first r h x s e =
+    let k : Kept first (r .past) (h .sound) x s = subst (Kept first (r .past) (h .sound) x) (ap (λ (c : Cell). calling c x) (sym (h .as-listed)) ∙ sym e) (call-kept first (r .past) (h .sound) x) in
+    record { as-listed = k .0; sound = k .1 }
+
+run-held : (first : Cell) (calls : List Call) (r : Run) → Held first r → Held first (run r calls)
+unfolding run
+run-held first [] r h = h
+run-held first (x ∷ xs) r h = run-held first xs (next r x) (step-held first r h x (calling (r .cell) x) refl)
+
+-- the third demand
+pub third-demand : ThirdDemand
+unfolding ThirdDemand
+third-demand ca c0 bcc ag p calls =
+    let begun = start-begun ca c0 bcc ag p in
+    collision-free-of first begun (run (begin first) calls) (run-held first calls (begin first) (begin-held first begun))
+  where
+    first : Cell
+    first = startOf ca c0 bcc ag p .cell
+
+-- ---- the same of the code
+
+handed-held : (first : Cell) (calls : List Answered) (c : Cell) (past : List Made) → Held first (record { cell = c; past = past }) → Promised c calls → Held first (handed c past calls)
+unfolding Promised handed
+handed-held first [] c past h p = h
+handed-held first (a ∷ more) c past h p =
+    handed-held first more (a .result .cell) _ (step-held first (record { cell = c; past = past }) h (a .call) (changed (a .result)) (p .0)) (p .1)
+
+pub third-demand-of-code : ThirdDemandOfCode
+unfolding ThirdDemandOfCode
+third-demand-of-code ca c0 bcc ag p first e calls promised =
+    record { collision-free = free; line = λ n v fn d o hf hd answer q. q ∙ free .line n v fn d o hf hd }
+  where
+    begun : Begun (first .cell)
+    begun = subst Begun (sym (ap (λ (s : Step). s .cell) e)) (start-begun ca c0 bcc ag p)
+
+    end : Run
+    end = handed (first .cell) [] calls
+
+    free : CollisionFree (first .cell) (end .past) (end .cell)
+    free = collision-free-of (first .cell) begun end (handed-held (first .cell) calls (first .cell) [] (begin-held (first .cell) begun) promised)

@@ -1,0 +1,12 @@
+pub mod Lines
+pub mod Tabulate
+pub mod History
+pub mod AsListed
+pub mod Sound
+pub mod SubchannelRows
+pub mod LineAnswer
+pub mod Shown
+pub mod Begun
+pub mod CollisionFree
+pub mod ExampleRun
+pub mod Causes

@@ -1,0 +1,30 @@
+-- What the calls' tests show of a line: that it is in the table, that it is open or closed, and that a subchannel has room. Assumes nothing.
+use Prim.Native.Nat.{ℕ, _≤_, _<_}
+use mathlib.Core.Path.{_≡_, ap}
+use mathlib.Core.Bool.{Bool, true, false, not, _||_, cond}
+use native.Mathlib.Omega.{arith}
+use lib.Dec.{ltb, eqb, lit≤}
+use borrow.Author.Tests.{ltb-false, eq-eqb, ne-eqb}
+use Rattle.answers.proofs.Tests.{or-none-left}
+use Rattle.cell.specs.Calls.{subchannels}
+
+pub in-table : (n : ℕ) (other : Bool) → (ltb 63 n || other) ≡ false → n < 64
+in-table n other h = let l : n ≤ 63 = ltb-false 63 n (or-none-left (ltb 63 n) other h) in omega arith
+
+-- a line of combination 0 is closed, any other is open: `isOpen` of the combination
+pub closed-line : {combination : ℕ} → combination ≡ 0 → not (eqb combination 0) ≡ false
+closed-line e = ap not (eq-eqb _ _ e)
+
+pub open-line : {combination : ℕ} → (combination ≡ 0 → ⊥) → not (eqb combination 0) ≡ true
+open-line e = ap not (ne-eqb _ _ e)
+
+-- no combination has more subchannels than a line has room for
+pub has-room : (combination : ℕ) → subchannels combination ≤ 8
+has-room k = go (eqb k 1) (eqb k 2) (eqb k 5) (eqb k 7)
+  where
+    go : (a b c d : Bool) → cond a 1 (cond b 2 (cond c 4 (cond d 8 0))) ≤ 8
+    go true b c d = lit≤ {m = 1} {n = 8} tt
+    go false true c d = lit≤ {m = 2} {n = 8} tt
+    go false false true d = lit≤ {m = 4} {n = 8} tt
+    go false false false true = lit≤ {m = 8} {n = 8} tt
+    go false false false false = lit≤ {m = 0} {n = 8} tt

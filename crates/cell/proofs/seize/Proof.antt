@@ -1,0 +1,16 @@
+-- `seize` meets its contract: a held subchannel is refused, a free one gets the owner. Assumes nothing.
+use borrow.Author.Needs.{needs}
+use Rattle.cell.specs.Calls.{seizeOf}
+use Rattle.cell.specs.Helpers.{passOf}
+use Rattle.cell.proofs.seize.Statement.{statement}
+use Rattle.cell.proofs.seize.Tie as tie
+
+pass-requires : tie.Need-pass-requires
+pass-requires c κs = search needs
+
+returns : tie.Need-returns
+unfolding seizeOf passOf
+returns c = c .pass .ensures
+
+pub seize-spec : {M : Type 1} → statement M
+seize-spec = tie.close (tie.spec pass-requires returns)

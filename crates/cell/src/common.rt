@@ -1,0 +1,122 @@
+// Where a common channel may stand: refusal 8.
+use crate::Cell;
+use crate::LineState;
+use hopping::allocation::entry;
+use hopping::masks::contains;
+ghost use mathlib.Core.Path.{_≡_};
+ghost use Prim.Native.Nat.{_-_};
+ghost use Rattle.answers.specs.Outcome.{anyOf};
+ghost use Rattle.cell.specs.Calls.{anyLine, misplaced, isCommonCombination, hasC0, c0Alone, needed};
+ghost use Rattle.cell.specs.Helpers.{wants};
+
+// A line that is looked for.
+pub(crate) enum Wanted {
+    // Of combination 4, 5 or 6.
+    Common,
+    // Of this combination.
+    Of(u32),
+    // Of this combination, in this timeslot.
+    In(u32, u64),
+}
+
+fn wide(n: u32) -> u64
+    ensures { λ r. ⌜ r ≡ n ⌝ }
+{
+    n as u64
+}
+
+fn is_common(combination: u32) -> bool
+    ensures { λ r. ⌜ r ≡ isCommonCombination combination ⌝ }
+{
+    (combination == 4) | (combination == 5) | (combination == 6)
+}
+
+fn is_wanted(l: LineState, w: Wanted) -> bool
+    ensures { λ r. ⌜ r ≡ wants w l ⌝ }
+{
+    let combination = l.combination;
+    let tn = wide(l.tn);
+    match w {
+        Wanted::Common => is_common(combination),
+        Wanted::Of(k) => combination == k,
+        Wanted::In(k, t) => (combination == k) & (tn == t),
+    }
+}
+
+// Some line is wanted.
+fn any_line(cell: Cell, w: Wanted) -> bool
+    ensures { λ r. ⌜ r ≡ anyLine cell (wants w) ⌝ }
+{
+    let mut n = 0;
+    while n < 64 {
+        if is_wanted(cell.lines[n], w) {
+            return true;
+        }
+        n += 1;
+    }
+    false
+}
+
+// Some one of the mask stands for C0.
+fn has_c0(cell: Cell, mask: u64) -> bool
+    ensures { λ r. ⌜ r ≡ hasC0 cell mask ⌝ }
+{
+    let ca = cell.ca;
+    let c0 = cell.c0;
+    let mut p = 0;
+    while p < 64 {
+        if contains(mask, p) & (entry(&ca, p) == c0) {
+            return true;
+        }
+        p += 1;
+    }
+    false
+}
+
+// The mask has C0 alone.
+fn c0_alone(cell: Cell, mask: u64) -> bool
+    ensures { λ r. ⌜ r ≡ c0Alone cell mask ⌝ }
+{
+    (u64::count_ones(mask) == 1) & has_c0(cell, mask)
+}
+
+// Two timeslots lower.
+fn lower(tn: u32) -> u64
+    ensures { λ r. ⌜ r ≡ tn - 2 ⌝ }
+{
+    if tn < 2 {
+        return 0;
+    }
+    (tn - 2) as u64
+}
+
+// A line with these values would be a common channel out of its place.
+pub(crate) fn misplaced(cell: Cell, tn: u32, mask: u64, combination: u32, tsc: u32) -> bool
+    ensures { λ r. ⌜ r ≡ anyOf (misplaced cell (record { tn = tn; mask = mask; hsn = 0; maio = 0; combination = combination; tsc = tsc })) ⌝ }
+{
+    let common = is_common(combination);
+    if !common {
+        return false;
+    }
+    let first = (combination == 4) | (combination == 5);
+    let six = combination == 6;
+    let first_elsewhere = first & !(tn == 0);
+    let six_elsewhere = six & !((tn == 2) | (tn == 4) | (tn == 6));
+    let other_mask = common & !c0_alone(cell, mask);
+    let other_code = common & !(tsc == cell.bcc);
+    let second = first & any_line(cell, Wanted::Common);
+    let reserved = (combination == 5) & (cell.ag > 2);
+    let no_first = six & (tn == 2) & !any_line(cell, Wanted::Of(4));
+    let no_six = six & ((tn == 4) | (tn == 6)) & !any_line(cell, Wanted::In(6, lower(tn)));
+    first_elsewhere
+        | (six_elsewhere
+            | (other_mask | (other_code | (second | (reserved | (no_first | no_six))))))
+}
+
+// A 4 or 6 while a 6 is open two timeslots higher.
+pub(crate) fn needed(cell: Cell, l: LineState) -> bool
+    ensures { λ r. ⌜ r ≡ needed cell l ⌝ }
+{
+    let higher = wide(l.tn) + 2;
+    ((l.combination == 4) | (l.combination == 6)) & any_line(cell, Wanted::In(6, higher))
+}
