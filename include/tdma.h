@@ -3,15 +3,18 @@
  *
  * The library answers questions of the frame clock (which T1, T2 and T3 is frame FN), of frequency
  * hopping (which channel number does a line use in a frame) and of the frame map (which logical
- * channel stands in a frame). "Document 01" below is this project's scope, whose refusal numbers
- * these are.
+ * channel stands in a frame); and it keeps the lines of a cell apart (which may be opened, who holds
+ * which subchannel, what does a line send in a frame). "Document 01" below is this project's scope,
+ * whose refusal numbers these are.
  *
  * No input has to be checked first. Every function returns for every value of every parameter: the
  * answer's `refusal` is TDMA_ACCEPTED, or the lowest number of document 01 that applies, and then
- * every other number of the answer is 0. The one thing asked of C is that a pointer passed with a
- * length can be read for that length.
+ * every other number of the answer is 0. (But TDMA_CLASH comes with a line number, and a call that
+ * changes a cell hands one back when it is refused, too.) The one thing asked of C is that a pointer
+ * passed with a length can be read for that length.
  *
- * The functions keep no state, allocate nothing and can be called from any thread.
+ * The functions keep no state, allocate nothing and can be called from any thread: a cell belongs to
+ * the caller, goes in by value and comes back by value.
  * Build the library with `rt staticlib tdma` and link target/staticlib/libtdma.a (x86-64).
  */
 #ifndef TDMA_H
@@ -27,7 +30,7 @@ extern "C" {
 /* Frames are numbered 0 to TDMA_HYPERFRAME - 1, and then from 0 again. */
 #define TDMA_HYPERFRAME 2715648u
 
-/* Why a call was refused. The functions below give 1, 3, 4, 5 and 14 only. */
+/* Why a call was refused. The functions below give 1 to 14. */
 enum tdma_refusal {
     TDMA_ACCEPTED = 0,
     TDMA_CELL_ALLOCATION = 1,   /* CA isn't 1 to 64 ARFCNs of 0 to 1023, strictly ascending */
@@ -50,7 +53,7 @@ enum tdma_refusal {
     TDMA_NO_COMMON_LINE = 16    /* paging with no common line open */
 };
 
-/* The logical channels, as tdma_map numbers them. */
+/* The logical channels, as tdma_map and tdma_line number them. */
 enum tdma_channel {
     TDMA_IDLE = 0,
     TDMA_TCH = 1,
@@ -166,6 +169,121 @@ typedef struct {
  * Refusal: TDMA_OUT_OF_RANGE for any of the four.
  */
 tdma_map_answer tdma_map(uint32_t combination, uint32_t tn, uint32_t frame, uint32_t direction);
+
+/*
+ * The cell.
+ *
+ * A cell has a cell allocation CA, its beacon C0, BCC, BS_AG_BLKS_RES, BS_PA_MFRMS, and 64 lines. A
+ * line is closed, or is open with six values (TN, mask, HSN, MAIO, combination, TSC) and an owner
+ * for each of its subchannels, 0 for free. Whatever the calls, no two held subchannels or common
+ * parts of open lines ever meet in a frame, timeslot, direction and ARFCN.
+ *
+ * A cell comes from tdma_start and from the calls that change it, and from nowhere else. (A call on
+ * storage that was filled otherwise returns too, but its answer means nothing.) Each change answers
+ * with the cell after it, which is the one to go on with. A refused one hands back the cell exactly
+ * as it came, so that `cell` can be taken from every answer:
+ *
+ *     tdma_changed answer = tdma_start(ca, 4, 10, 0, 1, 5);
+ *     answer = tdma_open(answer.cell, 0, 0, 1, 0, 0, 4, 0);
+ *     if (answer.refusal == TDMA_CLASH)
+ *         report(answer.line);
+ *     answer = tdma_close(answer.cell, 0);
+ */
+
+/* Storage for a cell: 4,248 bytes, aligned to 8, which only the library looks into. */
+typedef struct tdma_cell {
+    uint64_t opaque[531];
+} tdma_cell;
+
+typedef struct {
+    uint32_t refusal;
+    uint32_t line;  /* with TDMA_CLASH the smallest line that stands in the way, else 0 */
+    tdma_cell cell; /* the cell after the call */
+} tdma_changed;
+
+/*
+ * A cell with all lines closed. Refused, the answer has the cell with ARFCN 0 as cell allocation and
+ * C0, BCC and BS_AG_BLKS_RES 0, BS_PA_MFRMS 2, all lines closed.
+ *   ca, ca_length: the cell allocation, as for tdma_hop.
+ *   c0:  an ARFCN of the cell allocation.
+ *   bcc: 0 to 7.
+ *   ag:  BS_AG_BLKS_RES, 0 to 7.
+ *   p:   BS_PA_MFRMS, 2 to 9.
+ * Refusals, in this order: TDMA_CELL_ALLOCATION, TDMA_CELL_PARAMETER (c0, bcc, ag, p).
+ */
+tdma_changed tdma_start(const uint16_t *ca, size_t ca_length, uint32_t c0, uint32_t bcc, uint32_t ag,
+                        uint32_t p);
+
+/*
+ * Opens a line: it gets the six values, and all its subchannels are free.
+ *   line:        0 to 63, a closed line.
+ *   tn:          the timeslot, 0 to 7.
+ *   mask:        the mobile allocation, not zero, no one at or above CA's length.
+ *   hsn:         0 (cyclic) to 63.
+ *   maio:        0 to N - 1.
+ *   combination: 1, 2, 4, 5, 6 or 7, as for tdma_map.
+ *   tsc:         the training sequence code, 0 to 7.
+ * Combinations 4, 5 and 6 have a common part, and then TDMA_COMMON_CHANNEL asks for this: the mask
+ * has C0 alone, and tsc is BCC. 4 and 5 stand in timeslot 0 while no 4, 5 or 6 is open; 5 needs a
+ * BS_AG_BLKS_RES of at most 2. 6 stands in timeslot 2 if a 4 is open, in 4 or 6 if a 6 is open two
+ * timeslots lower.
+ * Two lines clash if their timeslots are equal and their masks share a one, unless masks and HSN are
+ * equal and the MAIO differ.
+ * Refusals, in this order: TDMA_OUT_OF_RANGE (line, tn, hsn, combination, tsc),
+ * TDMA_MOBILE_ALLOCATION, TDMA_MAIO, TDMA_LINE_OPEN, TDMA_COMMON_CHANNEL, TDMA_CLASH.
+ */
+tdma_changed tdma_open(tdma_cell cell, uint32_t line, uint32_t tn, uint64_t mask, uint32_t hsn,
+                       uint32_t maio, uint32_t combination, uint32_t tsc);
+
+/*
+ * Closes a line.
+ *   line: 0 to 63, an open line, no subchannel of it held. A 4 or 6 stays open while a 6 is open two
+ *         timeslots higher.
+ * Refusals, in this order: TDMA_OUT_OF_RANGE (line), TDMA_LINE_CLOSED, TDMA_COMMON_CHANNEL,
+ * TDMA_LINE_HELD.
+ */
+tdma_changed tdma_close(tdma_cell cell, uint32_t line);
+
+/*
+ * Gives a free subchannel to an owner.
+ *   line:       0 to 63, an open line.
+ *   subchannel: 0 for combination 1, 0 and 1 for 2, 0 to 3 for 5, 0 to 7 for 7; none for 4 and 6.
+ *   owner:      1 to 65,535.
+ * Refusals, in this order: TDMA_OUT_OF_RANGE (line, owner), TDMA_LINE_CLOSED, TDMA_NO_SUBCHANNEL,
+ * TDMA_SUBCHANNEL_HELD.
+ */
+tdma_changed tdma_seize(tdma_cell cell, uint32_t line, uint32_t subchannel, uint32_t owner);
+
+/*
+ * Frees a subchannel that the owner holds.
+ *   line, subchannel, owner: as for tdma_seize; the subchannel is held by this owner.
+ * Refusals, in this order: TDMA_OUT_OF_RANGE (line, owner), TDMA_LINE_CLOSED, TDMA_NO_SUBCHANNEL,
+ * TDMA_NOT_HOLDER.
+ */
+tdma_changed tdma_release(tdma_cell cell, uint32_t line, uint32_t subchannel, uint32_t owner);
+
+typedef struct {
+    uint32_t refusal;
+    uint32_t arfcn;   /* 0 to 1023, an entry of the cell allocation, also where the line is idle */
+    uint32_t owner;   /* of the subchannel; 0 where it is free or nobody's: idle, FCCH, SCH, BCCH,
+                         CCCH and RACH */
+    uint32_t channel; /* enum tdma_channel; from here on as in tdma_map_answer */
+    uint32_t subchannel;
+    uint32_t blocks;
+    uint32_t block;
+    uint32_t place;
+    uint32_t second_block;
+    uint32_t second_place;
+} tdma_line_answer;
+
+/*
+ * What a line sends (or, uplink, receives) in a frame. The cell stays as it is.
+ *   line:      0 to 63, an open line.
+ *   frame:     0 to TDMA_HYPERFRAME - 1.
+ *   direction: enum tdma_direction.
+ * Refusals, in this order: TDMA_OUT_OF_RANGE (line, frame, direction), TDMA_LINE_CLOSED.
+ */
+tdma_line_answer tdma_line(tdma_cell cell, uint32_t line, uint32_t frame, uint32_t direction);
 
 #ifdef __cplusplus
 }

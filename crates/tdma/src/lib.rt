@@ -1,5 +1,8 @@
-// The C interface, include/tdma.h: plain numbers and slices in, structs of numbers out. `refusal` is 0 for an accepted call, else document
-// 01's number, and then every other number is 0. specs/Numbers.antt says so for each answer.
+// The C interface, include/tdma.h: plain numbers, slices and cells in, structs of numbers out. `refusal` is 0 for an accepted call, else document
+// 01's number, and then every other number is 0 (but for the line of 9). specs/Numbers.antt says so for each answer. The calls of the cell are in
+// cells.rt.
+pub mod cells;
+
 use answers::Refusal;
 use clock::Frame;
 use clock::Joined;

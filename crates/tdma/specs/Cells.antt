@@ -1,0 +1,39 @@
+-- What the answers of the cell's calls have in plain numbers. Assumes nothing.
+use Prim.Native.Nat.{ℕ}
+use mathlib.Core.List.{List, [], _∷_}
+use mathlib.Core.Option.{Option, none, some}
+use Rattle.answers.specs.Outcome.{Refused, Outcome, refused, accepted}
+use Rattle.frame_map.specs.Numbers.{Numbers, noNumbers, standingNumbers}
+use Rattle.cell.specs.Calls.{Step}
+use Rattle.cell.specs.OnAir.{Slot}
+use Rattle.tdma.specs.declared.cells.TdmaChanged.{TdmaChanged}
+use Rattle.tdma.specs.declared.cells.TdmaLine.{TdmaLine}
+
+-- the value that comes with 9 (the line in the way) and 15; 0 for a refusal that comes alone
+abbrev pub firstOf : List ℕ → ℕ
+firstOf [] = 0
+firstOf (x ∷ xs) = x
+
+abbrev pub valueOf : Refused → ℕ
+valueOf r = firstOf (r .values)
+
+abbrev pub refusalNumber : Option Refused → ℕ
+refusalNumber none = 0
+refusalNumber (some r) = r .number
+
+abbrev pub refusalValue : Option Refused → ℕ
+refusalValue none = 0
+refusalValue (some r) = valueOf r
+
+-- the refusal, 0 where the call is accepted, and the cell after the call
+abbrev pub changedNumbers : Step → TdmaChanged
+changedNumbers s = record { refusal = refusalNumber (s .refusal); line = refusalValue (s .refusal); cell = s .cell }
+
+abbrev pub lineFields : ℕ → ℕ → Numbers → TdmaLine
+lineFields arfcn owner n =
+    record { refusal = n .refusal; arfcn = arfcn; owner = owner; channel = n .channel; subchannel = n .subchannel; blocks = n .blocks; block = n .block; place = n .place; block2 = n .block2; place2 = n .place2 }
+
+-- refused, every number but the refusal is 0
+abbrev pub lineNumbers : Outcome Slot → TdmaLine
+lineNumbers (refused r) = lineFields 0 0 (noNumbers (r .number))
+lineNumbers (accepted s) = lineFields (s .arfcn) (s .owner) (standingNumbers (s .standing))

@@ -1,0 +1,224 @@
+// The calls of the cell. A cell goes in and comes back by value.
+use crate::refusal_number;
+use answers::Refusal;
+use cell::Aired;
+use cell::Answer;
+use cell::Cell;
+use cell::Changed;
+use cell::OnAir;
+use frame_map::Blocks;
+use frame_map::Burst;
+use frame_map::Content;
+use frame_map::Kind;
+ghost use mathlib.Core.Path.{_≡_};
+ghost use Rattle.answers.specs.Outcome.{accepted};
+ghost use Rattle.answers.specs.Refusals.{refusalOf};
+ghost use Rattle.frame_map.specs.Channels.{kindNumber};
+ghost use Rattle.frame_map.specs.Map.{inBlocks};
+ghost use Rattle.frame_map.specs.Numbers.{noNumbers, standingNumbers};
+ghost use Rattle.cell.specs.Calls.{startOf, openOf, closeOf, seizeOf, releaseOf, changed};
+ghost use Rattle.cell.specs.OnAir.{lineOf, slotIn};
+ghost use Rattle.tdma.specs.Cells.{valueOf, changedNumbers, lineFields, lineNumbers};
+
+// The refusal, for 9 the line in the way, and the cell after the call.
+#[repr(C)]
+pub struct TdmaChanged {
+    pub refusal: u32,
+    pub line: u32,
+    pub cell: Cell,
+}
+
+// The ARFCN and the owner; the channel, 0 for idle, its subchannel, and as many blocks and places as `blocks` says.
+#[repr(C)]
+pub struct TdmaLine {
+    pub refusal: u32,
+    pub arfcn: u32,
+    pub owner: u32,
+    pub channel: u32,
+    pub subchannel: u32,
+    pub blocks: u32,
+    pub block: u32,
+    pub place: u32,
+    pub block2: u32,
+    pub place2: u32,
+}
+
+// The value that comes with a refusal, 0 if it comes alone.
+fn refusal_value(e: Refusal) -> u32
+    ensures { λ r. ⌜ r ≡ valueOf (refusalOf e) ⌝ }
+{
+    match e {
+        Refusal::CellAllocation => 0,
+        Refusal::CellParameter => 0,
+        Refusal::OutOfRange => 0,
+        Refusal::MobileAllocation => 0,
+        Refusal::Maio => 0,
+        Refusal::LineOpen => 0,
+        Refusal::LineClosed => 0,
+        Refusal::CommonChannel => 0,
+        Refusal::Clash { line } => line,
+        Refusal::NoSubchannel => 0,
+        Refusal::SubchannelHeld => 0,
+        Refusal::NotHolder => 0,
+        Refusal::LineHeld => 0,
+        Refusal::Malformed => 0,
+        Refusal::FixedBit { bit } => bit,
+        Refusal::NoCommonLine => 0,
+    }
+}
+
+fn changed_numbers(c: Changed) -> TdmaChanged
+    ensures { λ r. ⌜ r ≡ changedNumbers (changed c) ⌝ }
+{
+    let answer = c.answer;
+    let cell = c.cell;
+    match answer {
+        Answer::Accepted => TdmaChanged {
+            refusal: 0,
+            line: 0,
+            cell,
+        },
+        Answer::Refused(e) => TdmaChanged {
+            refusal: refusal_number(e),
+            line: refusal_value(e),
+            cell,
+        },
+    }
+}
+
+// A cell with all lines closed.
+#[no_mangle]
+pub extern "C" fn tdma_start(ca: &[u16], c0: u32, bcc: u32, ag: u32, p: u32) -> TdmaChanged
+    ensures { λ r. ⌜ r ≡ changedNumbers (startOf (now (ca .entry)) c0 bcc ag p) ⌝ }
+{
+    changed_numbers(cell::start(ca, c0, bcc, ag, p))
+}
+
+// The line gets the six values.
+#[no_mangle]
+pub extern "C" fn tdma_open(
+    cell: Cell,
+    line: u32,
+    tn: u32,
+    mask: u64,
+    hsn: u32,
+    maio: u32,
+    combination: u32,
+    tsc: u32,
+) -> TdmaChanged
+    ensures { λ r. ⌜ r ≡ changedNumbers (openOf cell line (record { tn = tn; mask = mask; hsn = hsn; maio = maio; combination = combination; tsc = tsc })) ⌝ }
+{
+    changed_numbers(cell::open(cell, line, tn, mask, hsn, maio, combination, tsc))
+}
+
+#[no_mangle]
+pub extern "C" fn tdma_close(cell: Cell, line: u32) -> TdmaChanged
+    ensures { λ r. ⌜ r ≡ changedNumbers (closeOf cell line) ⌝ }
+{
+    changed_numbers(cell::close(cell, line))
+}
+
+// The subchannel, if it is free, gets the owner.
+#[no_mangle]
+pub extern "C" fn tdma_seize(cell: Cell, line: u32, subchannel: u32, owner: u32) -> TdmaChanged
+    ensures { λ r. ⌜ r ≡ changedNumbers (seizeOf cell line subchannel owner) ⌝ }
+{
+    changed_numbers(cell::seize(cell, line, subchannel, owner))
+}
+
+// The subchannel, if this owner holds it, is free again.
+#[no_mangle]
+pub extern "C" fn tdma_release(cell: Cell, line: u32, subchannel: u32, owner: u32) -> TdmaChanged
+    ensures { λ r. ⌜ r ≡ changedNumbers (releaseOf cell line subchannel owner) ⌝ }
+{
+    changed_numbers(cell::release(cell, line, subchannel, owner))
+}
+
+fn kind_number(kind: Kind) -> u32
+    ensures { λ r. ⌜ r ≡ kindNumber kind ⌝ }
+{
+    match kind {
+        Kind::Tch => 1,
+        Kind::Sacch => 2,
+        Kind::Sdcch => 3,
+        Kind::Fcch => 4,
+        Kind::Sch => 5,
+        Kind::Bcch => 6,
+        Kind::Ccch => 7,
+        Kind::Rach => 8,
+    }
+}
+
+// A burst in numbers.
+fn burst_numbers(arfcn: u32, owner: u32, b: Burst) -> TdmaLine
+    ensures { λ r. ⌜ r ≡ lineFields arfcn owner (standingNumbers (inBlocks (b .kind) (b .subchannel) (b .blocks))) ⌝ }
+{
+    let kind = b.kind;
+    let channel = kind_number(kind);
+    let blocks = b.blocks;
+    match blocks {
+        Blocks::One(p) => TdmaLine {
+            refusal: 0,
+            arfcn,
+            owner,
+            channel,
+            subchannel: b.subchannel,
+            blocks: 1,
+            block: p.block,
+            place: p.place,
+            block2: 0,
+            place2: 0,
+        },
+        Blocks::Two(p, q) => TdmaLine {
+            refusal: 0,
+            arfcn,
+            owner,
+            channel,
+            subchannel: b.subchannel,
+            blocks: 2,
+            block: p.block,
+            place: p.place,
+            block2: q.block,
+            place2: q.place,
+        },
+    }
+}
+
+// An idle frame, or a refusal.
+fn no_burst(refusal: u32, arfcn: u32, owner: u32) -> TdmaLine
+    ensures { λ r. ⌜ r ≡ lineFields arfcn owner (noNumbers refusal) ⌝ }
+{
+    TdmaLine {
+        refusal,
+        arfcn,
+        owner,
+        channel: 0,
+        subchannel: 0,
+        blocks: 0,
+        block: 0,
+        place: 0,
+        block2: 0,
+        place2: 0,
+    }
+}
+
+fn slot_numbers(a: OnAir) -> TdmaLine
+    ensures { λ r. ⌜ r ≡ lineNumbers (accepted (slotIn a)) ⌝ }
+{
+    let content = a.content;
+    match content {
+        Content::Idle => no_burst(0, a.arfcn, a.owner),
+        Content::Channel(b) => burst_numbers(a.arfcn, a.owner, b),
+    }
+}
+
+// What the line sends in a frame, downlink (0) or uplink (1).
+#[no_mangle]
+pub extern "C" fn tdma_line(cell: Cell, line: u32, frame: u32, direction: u32) -> TdmaLine
+    ensures { λ r. ⌜ r ≡ lineNumbers (lineOf cell line frame direction) ⌝ }
+{
+    match cell::line(cell, line, frame, direction) {
+        Aired::Line(a) => slot_numbers(a),
+        Aired::Refused(e) => no_burst(refusal_number(e), 0, 0),
+    }
+}
