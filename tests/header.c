@@ -1,7 +1,18 @@
-/* The header from C: each function is called, once accepted and once refused. */
+/* The header from C: each function is called, accepted and refused, and the sizes are checked. */
 #include "tdma.h"
 
 #include <stdio.h>
+#include <string.h>
+
+/* The sizes that the library was built with; a wrong one does not compile. */
+struct cell_after_a_byte {
+    char byte;
+    struct tdma_cell cell;
+};
+typedef char cell_size[sizeof(tdma_cell) == 4248 ? 1 : -1];
+typedef char cell_alignment[offsetof(struct cell_after_a_byte, cell) == 8 ? 1 : -1];
+typedef char changed_size[sizeof(tdma_changed) == 8 + 4248 ? 1 : -1];
+typedef char line_answer_size[sizeof(tdma_line_answer) == 40 ? 1 : -1];
 
 static int wrong = 0;
 
@@ -63,10 +74,107 @@ static void map_calls(void)
     expect("map, refused", third.refusal == TDMA_OUT_OF_RANGE && third.channel == 0);
 }
 
+/* Takes the cell from an answer, and says what the call was refused with. */
+static uint32_t take(tdma_cell *cell, tdma_changed answer)
+{
+    *cell = answer.cell;
+    return answer.refusal;
+}
+
+/* CA is 10, 20, 30, 40, C0 is 10, BCC is 0; a 4 is open on line 0, a 2 in timeslot 1 on line 5. */
+static tdma_cell two_lines(void)
+{
+    static const uint16_t ca[4] = {10, 20, 30, 40};
+    tdma_cell cell;
+
+    expect("start", take(&cell, tdma_start(ca, 4, 10, 0, 1, 5)) == TDMA_ACCEPTED);
+    expect("open a 4", take(&cell, tdma_open(cell, 0, 0, 1, 0, 0, 4, 0)) == TDMA_ACCEPTED);
+    expect("open a 2", take(&cell, tdma_open(cell, 5, 1, 7, 1, 2, 2, 3)) == TDMA_ACCEPTED);
+    return cell;
+}
+
+static void start_calls(void)
+{
+    static const uint16_t descending[2] = {20, 10};
+    tdma_changed c0 = tdma_start(descending + 1, 1, 20, 0, 1, 5);
+    tdma_changed ca = tdma_start(descending, 2, 20, 0, 1, 5);
+    tdma_changed opened = tdma_open(ca.cell, 63, 7, 1, 0, 0, 1, 0);
+    tdma_line_answer line = tdma_line(opened.cell, 63, 0, TDMA_DOWNLINK);
+
+    expect("start, C0 refused", c0.refusal == TDMA_CELL_PARAMETER && c0.line == 0);
+    expect("start, CA refused", ca.refusal == TDMA_CELL_ALLOCATION && ca.line == 0);
+    expect("a refused start's cell", opened.refusal == TDMA_ACCEPTED &&
+                                         line.refusal == TDMA_ACCEPTED && line.arfcn == 0 &&
+                                         line.channel == TDMA_TCH);
+}
+
+static void open_and_close_calls(void)
+{
+    tdma_cell cell = two_lines();
+    tdma_changed clash = tdma_open(cell, 6, 1, 4, 0, 0, 7, 0);
+    tdma_changed common = tdma_open(cell, 6, 0, 1, 0, 0, 4, 0);
+    tdma_changed mask = tdma_open(cell, 5, 1, UINT64_MAX, 0, 64, 4, 0);
+    tdma_changed maio = tdma_open(cell, 5, 1, 7, 1, 3, 2, 3);
+    tdma_changed again = tdma_open(cell, 5, 1, 7, 1, 1, 2, 3);
+    tdma_changed past = tdma_close(cell, 64);
+
+    expect("open, clash", clash.refusal == TDMA_CLASH && clash.line == 5);
+    expect("open, clash, cell", memcmp(&clash.cell, &cell, sizeof cell) == 0);
+    expect("open, common channel", common.refusal == TDMA_COMMON_CHANNEL && common.line == 0);
+    expect("open, mask", mask.refusal == TDMA_MOBILE_ALLOCATION);
+    expect("open, MAIO", maio.refusal == TDMA_MAIO);
+    expect("open of an open line", again.refusal == TDMA_LINE_OPEN);
+    expect("open a 6", take(&cell, tdma_open(cell, 6, 2, 1, 0, 0, 6, 0)) == TDMA_ACCEPTED);
+    expect("close a needed 4", take(&cell, tdma_close(cell, 0)) == TDMA_COMMON_CHANNEL);
+    expect("close the 6", take(&cell, tdma_close(cell, 6)) == TDMA_ACCEPTED);
+    expect("close the 4", take(&cell, tdma_close(cell, 0)) == TDMA_ACCEPTED);
+    expect("close a closed line", take(&cell, tdma_close(cell, 0)) == TDMA_LINE_CLOSED);
+    expect("close, line number", past.refusal == TDMA_OUT_OF_RANGE);
+}
+
+static void seize_and_release_calls(void)
+{
+    tdma_cell cell = two_lines();
+
+    expect("seize on a 4", take(&cell, tdma_seize(cell, 0, 0, 77)) == TDMA_NO_SUBCHANNEL);
+    expect("seize, owner", take(&cell, tdma_seize(cell, 5, 1, 65536)) == TDMA_OUT_OF_RANGE);
+    expect("seize", take(&cell, tdma_seize(cell, 5, 1, 77)) == TDMA_ACCEPTED);
+    expect("seize, held", take(&cell, tdma_seize(cell, 5, 1, 78)) == TDMA_SUBCHANNEL_HELD);
+    expect("close, held", take(&cell, tdma_close(cell, 5)) == TDMA_LINE_HELD);
+    expect("release, other", take(&cell, tdma_release(cell, 5, 1, 78)) == TDMA_NOT_HOLDER);
+    expect("release", take(&cell, tdma_release(cell, 5, 1, 77)) == TDMA_ACCEPTED);
+    expect("close, free", take(&cell, tdma_close(cell, 5)) == TDMA_ACCEPTED);
+}
+
+static void line_calls(void)
+{
+    tdma_cell cell = tdma_seize(two_lines(), 5, 1, 77).cell;
+    tdma_line_answer ccch = tdma_line(cell, 0, 26, TDMA_DOWNLINK);
+    tdma_line_answer tch = tdma_line(cell, 5, 3, TDMA_UPLINK);
+    tdma_line_answer spare = tdma_line(cell, 5, 4, TDMA_UPLINK);
+    tdma_line_answer closed = tdma_line(cell, 1, 26, TDMA_DOWNLINK);
+    tdma_line_answer past = tdma_line(cell, 0, TDMA_HYPERFRAME, TDMA_DOWNLINK);
+
+    expect("line, CCCH", ccch.refusal == TDMA_ACCEPTED && ccch.arfcn == 10 && ccch.owner == 0 &&
+                             ccch.channel == TDMA_CCCH && ccch.blocks == 1 && ccch.block == 4 &&
+                             ccch.place == 0);
+    expect("line, TCH", tch.refusal == TDMA_ACCEPTED && tch.arfcn == 30 && tch.owner == 77 &&
+                            tch.channel == TDMA_TCH && tch.subchannel == 1 && tch.blocks == 2 &&
+                            tch.block == 0 && tch.place == 1 && tch.second_block == 5 &&
+                            tch.second_place == 3);
+    expect("line, free", spare.channel == TDMA_TCH && spare.subchannel == 0 && spare.owner == 0);
+    expect("line, closed", closed.refusal == TDMA_LINE_CLOSED && closed.arfcn == 0);
+    expect("line, frame", past.refusal == TDMA_OUT_OF_RANGE && past.channel == 0);
+}
+
 int main(void)
 {
     clock_calls();
     hopping_calls();
     map_calls();
+    start_calls();
+    open_and_close_calls();
+    seize_and_release_calls();
+    line_calls();
     return wrong;
 }

@@ -1,11 +1,15 @@
 //! A second implementation of document 01, to compare the library with.
 //!
-//! `clock`, `hopping` and `frame_map` are written from document 01 alone and by other means than
-//! the library: counters that step from frame to frame, lists of positions, tables of frames that
-//! are painted block by block. `library` is the library under test as C sees it. `random` draws
-//! the inputs.
+//! `clock`, `hopping`, `frame_map` and `cell` are written from document 01 alone and by other means
+//! than the library: counters that step from frame to frame, lists of positions, tables of frames
+//! that are painted block by block, a book of the open lines. `library` is the library under test
+//! as C sees it. `random` draws the inputs, and `draw` whole calls on a cell, which `calls` makes
+//! on both.
 
+pub mod calls;
+pub mod cell;
 pub mod clock;
+pub mod draw;
 pub mod frame_map;
 pub mod hopping;
 pub mod library;
@@ -16,9 +20,18 @@ pub type Answer<T> = Result<T, u32>;
 
 /// The refusals of document 01 that the library gives.
 pub const CELL_ALLOCATION: u32 = 1;
+pub const CELL_PARAMETER: u32 = 2;
 pub const OUT_OF_RANGE: u32 = 3;
 pub const MOBILE_ALLOCATION: u32 = 4;
 pub const MAIO: u32 = 5;
+pub const LINE_OPEN: u32 = 6;
+pub const LINE_CLOSED: u32 = 7;
+pub const COMMON_CHANNEL: u32 = 8;
+pub const CLASH: u32 = 9;
+pub const NO_SUBCHANNEL: u32 = 10;
+pub const SUBCHANNEL_HELD: u32 = 11;
+pub const NOT_HOLDER: u32 = 12;
+pub const LINE_HELD: u32 = 13;
 pub const MALFORMED: u32 = 14;
 
 /// Refuses with the lowest number whose condition holds, in whatever order they are listed.

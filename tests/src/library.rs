@@ -1,6 +1,7 @@
 //! The library under test as include/tdma.h declares it, and what an answer of the second
 //! implementation is in its numbers.
 
+use crate::cell::{OnAir, Values};
 use crate::clock::Counters;
 use crate::frame_map::Burst;
 use crate::Answer;
@@ -19,6 +20,26 @@ answers! {
     PositionAnswer: u32 { refusal, position }
     HopAnswer: u32 { refusal, arfcn }
     MapAnswer: u8 { refusal, channel, subchannel, blocks, block, place, second_block, second_place }
+    LineAnswer: u32 {
+        refusal, arfcn, owner, channel, subchannel, blocks, block, place, second_block, second_place
+    }
+}
+
+/// The cell as C has it: storage that only the library looks into.
+#[repr(C)]
+#[derive(Clone, Copy, PartialEq, Eq)]
+pub struct Cell {
+    pub opaque: [u64; 531],
+}
+
+const _: () = assert!(size_of::<Cell>() == 4248 && align_of::<Cell>() == 8);
+
+#[repr(C)]
+#[derive(Clone, Copy)]
+pub struct Changed {
+    pub refusal: u32,
+    pub line: u32,
+    pub cell: Cell,
 }
 
 extern "C" {
@@ -34,10 +55,25 @@ extern "C" {
         frame: u32,
     ) -> HopAnswer;
     fn tdma_map(combination: u32, tn: u32, frame: u32, direction: u32) -> MapAnswer;
+    fn tdma_start(ca: *const u16, ca_length: usize, c0: u32, bcc: u32, ag: u32, p: u32) -> Changed;
+    fn tdma_open(
+        cell: Cell,
+        line: u32,
+        tn: u32,
+        mask: u64,
+        hsn: u32,
+        maio: u32,
+        combination: u32,
+        tsc: u32,
+    ) -> Changed;
+    fn tdma_close(cell: Cell, line: u32) -> Changed;
+    fn tdma_seize(cell: Cell, line: u32, subchannel: u32, owner: u32) -> Changed;
+    fn tdma_release(cell: Cell, line: u32, subchannel: u32, owner: u32) -> Changed;
+    fn tdma_line(cell: Cell, line: u32, frame: u32, direction: u32) -> LineAnswer;
 }
 
-// The library takes every value of a number, so these calls are safe; a slice is readable for its
-// length, and its pointer is not null even where it is empty.
+// The library takes every value of a number and of a cell, so these calls are safe; a slice is
+// readable for its length, and its pointer is not null even where it is empty.
 
 #[inline]
 pub fn split(frame: u32) -> SplitAnswer {
@@ -62,6 +98,47 @@ pub fn hop(ca: &[u16], mask: u64, hsn: u32, maio: u32, frame: u32) -> HopAnswer 
 #[inline]
 pub fn map(combination: u32, tn: u32, frame: u32, direction: u32) -> MapAnswer {
     unsafe { tdma_map(combination, tn, frame, direction) }
+}
+
+#[inline]
+pub fn start(ca: &[u16], c0: u32, bcc: u32, ag: u32, p: u32) -> Changed {
+    unsafe { tdma_start(ca.as_ptr(), ca.len(), c0, bcc, ag, p) }
+}
+
+#[inline]
+pub fn open(cell: &Cell, line: u32, v: &Values) -> Changed {
+    unsafe {
+        tdma_open(
+            *cell,
+            line,
+            v.tn,
+            v.mask,
+            v.hsn,
+            v.maio,
+            v.combination,
+            v.tsc,
+        )
+    }
+}
+
+#[inline]
+pub fn close(cell: &Cell, line: u32) -> Changed {
+    unsafe { tdma_close(*cell, line) }
+}
+
+#[inline]
+pub fn seize(cell: &Cell, line: u32, s: u32, owner: u32) -> Changed {
+    unsafe { tdma_seize(*cell, line, s, owner) }
+}
+
+#[inline]
+pub fn release(cell: &Cell, line: u32, s: u32, owner: u32) -> Changed {
+    unsafe { tdma_release(*cell, line, s, owner) }
+}
+
+#[inline]
+pub fn line(cell: &Cell, line: u32, frame: u32, direction: u32) -> LineAnswer {
+    unsafe { tdma_line(*cell, line, frame, direction) }
 }
 
 impl From<Answer<Counters>> for SplitAnswer {
@@ -130,6 +207,37 @@ impl From<Answer<&Burst>> for MapAnswer {
             place: byte(at(0).1),
             second_block: byte(at(1).0),
             second_place: byte(at(1).1),
+        }
+    }
+}
+
+impl From<Answer<OnAir>> for LineAnswer {
+    fn from(answer: Answer<OnAir>) -> Self {
+        let OnAir {
+            arfcn,
+            burst,
+            owner,
+        } = match answer {
+            Err(refusal) => {
+                return LineAnswer {
+                    refusal,
+                    ..Default::default()
+                }
+            }
+            Ok(on_air) => on_air,
+        };
+        let map = MapAnswer::from(Ok(burst));
+        LineAnswer {
+            refusal: 0,
+            arfcn,
+            owner,
+            channel: map.channel.into(),
+            subchannel: map.subchannel.into(),
+            blocks: map.blocks.into(),
+            block: map.block.into(),
+            place: map.place.into(),
+            second_block: map.second_block.into(),
+            second_place: map.second_place.into(),
         }
     }
 }
