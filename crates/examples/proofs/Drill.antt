@@ -7,12 +7,18 @@ use borrow.Author.Tests.{le-ltb}
 use Rattle.answers.specs.Outcome.{accepted, decide, anyOf}
 use Rattle.answers.specs.Search.{allBelow, anyBelow, least}
 use Rattle.answers.proofs.Decide.{passes, accepts}
-use Rattle.hopping.specs.Masks.{onesBelow, positionAt, oneAtOrAbove}
+use Rattle.hopping.specs.Masks.{onesBelow, positionAt, oneAtOrAbove, shareOne}
 use Rattle.hopping.specs.Allocation.{isAllocation}
 use Rattle.hopping.specs.Hopping.{rntable, nbin, S, maiOf, positionOf, hopOf}
+use Rattle.hopping.specs.Clash.{clash}
 use Rattle.frame_map.specs.Rows.{numbered, each, from, standing}
-use Rattle.frame_map.specs.Combinations.{fullRate, halfRate, combined, sdcch8, combinations, among, rowsAmong, rowsOf, isCombination}
+use Rattle.frame_map.specs.Combinations.{fullRate, halfRate, uncombined, combined, additional, sdcch8, combinations, among, rowsAmong, rowsOf, isCombination}
 use Rattle.frame_map.specs.Map.{mapOf}
+use Rattle.cell.specs.State.{tabulate, closedLine, empty}
+use Rattle.cell.specs.Calls.{startOf, openOf, seizeOf}
+use Rattle.cell.specs.OnAir.{ownerOf, slotOf, lineOf}
+use Rattle.cell.specs.CollisionFree.{run}
+use Rattle.cell.specs.ExampleRun.{refusals}
 use Rattle.examples.specs.DrillSheet.{DrillSheet}
 
 -- a question in range is answered by what stands there
@@ -22,7 +28,7 @@ module _ (n tn fn d : ℕ) (t : tn ≤ 7) (f : fn ≤ 2715647) (e : d ≤ 1) whe
   in-range c = passes _ _ _ (ap not c, (le-ltb _ _ t, (le-ltb _ _ f, (le-ltb _ _ e, tt)))) ∙ accepts _
 
 pub drill-sheet : DrillSheet
-unfolding decide anyOf allBelow anyBelow least onesBelow positionAt oneAtOrAbove isAllocation rntable nbin S maiOf positionOf hopOf numbered each from standing fullRate halfRate combined sdcch8 combinations among rowsAmong
+unfolding lineOf slotOf ownerOf mapOf refusals run shareOne clash tabulate closedLine empty startOf openOf seizeOf uncombined additional decide anyOf allBelow anyBelow least onesBelow positionAt oneAtOrAbove isAllocation rntable nbin S maiOf positionOf hopOf numbered each from standing fullRate halfRate combined sdcch8 combinations among rowsAmong
 drill-sheet =
     record {
       last-frame = refl;
@@ -40,4 +46,19 @@ drill-sheet =
       combined-fn-13 = λ tn h. in-range 5 tn 13 1 h (lit≤ tt) (lit≤ tt) refl;
       combined-fn-14 = λ tn h. in-range 5 tn 14 1 h (lit≤ tt) (lit≤ tt) refl;
       combined-fn-64 = λ tn h. in-range 5 tn 64 1 h (lit≤ tt) (lit≤ tt) refl;
+      accepted-calls = refl;
+      accepted-combined = refl;
+      line-cyclic = refl;
+      line-mask-7-fn-0 = refl;
+      line-mask-7-fn-2 = refl;
+      line-mask-7-fn-4 = refl;
+      line-mask-7-maio-1 = refl;
+      line-mask-15 = refl;
+      line-full-rate-sacch = refl;
+      line-full-rate-idle = refl;
+      line-half-rate-sacch = refl;
+      line-sdcch8-sacch = refl;
+      line-combined-fn-13 = refl;
+      line-combined-fn-14 = refl;
+      line-combined-fn-64 = refl;
     }

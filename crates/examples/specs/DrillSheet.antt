@@ -2,16 +2,49 @@
 use Prim.Native.Nat.{ℕ, _≤_}
 use mathlib.Core.Path.{_≡_}
 use mathlib.Core.List.{List, [], _∷_}
+use mathlib.Core.Option.{none}
 use Rattle.answers.specs.Outcome.{accepted}
 use Rattle.clock.specs.Clock.{splitOf, joinOf}
 use Rattle.hopping.specs.Hopping.{hopOf}
-use Rattle.frame_map.specs.declared.Kind.the-variants.{Sacch, Rach}
+use Rattle.frame_map.specs.declared.Kind.the-variants.{Tch, Sacch, Sdcch, Rach}
 use Rattle.frame_map.specs.Channels.{at}
 use Rattle.frame_map.specs.Map.{mapOf}
+use Rattle.cell.specs.declared.Cell.{Cell}
+use Rattle.cell.specs.Calls.{startOf}
+use Rattle.cell.specs.OnAir.{lineOf}
+use Rattle.cell.specs.History.{Call, opens, seizes}
+use Rattle.cell.specs.CollisionFree.{run, begin}
+use Rattle.cell.specs.ExampleRun.{refusals, values}
 
 -- "CA is 10, 20, 30, 40"
 abbrev pub ca : List ℕ
 ca = 10 ∷ 20 ∷ 30 ∷ 40 ∷ []
+
+-- the rows asked of a cell: C0 10, BCC 0, AG 1, P 5, as in the last row
+abbrev pub empty : Cell
+empty = startOf ca 10 0 1 5 .cell
+
+-- its lines have the masks, HSNs, MAIOs and combinations that the rows name, and subchannel 5 of the SDCCH/8 has an owner
+abbrev pub calls : List Call
+calls =
+    opens 0 (values 0 1 0 0 4 0)
+    ∷ opens 1 (values 1 7 0 2 1 3)
+    ∷ opens 2 (values 1 8 0 0 2 3)
+    ∷ opens 3 (values 2 7 1 0 1 3)
+    ∷ opens 4 (values 2 7 1 1 1 3)
+    ∷ opens 5 (values 3 15 1 0 7 3)
+    ∷ seizes 5 5 77
+    ∷ []
+
+abbrev pub traffic : Cell
+traffic = run (begin empty) calls .cell
+
+-- a cell whose common line is a 5, for the rows on it
+abbrev pub combinedCalls : List Call
+combinedCalls = opens 0 (values 0 1 0 0 5 0) ∷ seizes 0 3 78 ∷ []
+
+abbrev pub combined : Cell
+combined = run (begin empty) combinedCalls .cell
 
 pub record DrillSheet : Type 0 where
   -- "FN 2,715,647 is (2047, 25, 50); (0, 25, 0) is FN 51"
@@ -37,3 +70,19 @@ pub record DrillSheet : Type 0 where
   pub combined-fn-13 : (tn : ℕ) → tn ≤ 7 → mapOf 5 tn 13 1 ≡ accepted (at Sacch 3 0 3 ∷ [])
   pub combined-fn-14 : (tn : ℕ) → tn ≤ 7 → mapOf 5 tn 14 1 ≡ accepted (at Rach 0 2 0 ∷ [])
   pub combined-fn-64 : (tn : ℕ) → tn ≤ 7 → mapOf 5 tn 64 1 ≡ accepted (at Sacch 1 0 3 ∷ [])
+  -- the same, asked of a cell
+  pub accepted-calls : refusals empty calls ≡ none ∷ none ∷ none ∷ none ∷ none ∷ none ∷ none ∷ []
+  pub accepted-combined : refusals empty combinedCalls ≡ none ∷ none ∷ []
+  pub line-cyclic : lineOf traffic 1 5 0 ≡ accepted (record { arfcn = 20; standing = at Tch 0 1 1 ∷ at Tch 0 0 5 ∷ []; owner = 0 })
+  pub line-mask-7-fn-0 : lineOf traffic 3 0 0 ≡ accepted (record { arfcn = 30; standing = at Tch 0 0 0 ∷ at Tch 0 5 4 ∷ []; owner = 0 })
+  pub line-mask-7-fn-2 : lineOf traffic 3 2 0 ≡ accepted (record { arfcn = 30; standing = at Tch 0 0 2 ∷ at Tch 0 5 6 ∷ []; owner = 0 })
+  pub line-mask-7-fn-4 : lineOf traffic 3 4 0 ≡ accepted (record { arfcn = 10; standing = at Tch 0 1 0 ∷ at Tch 0 0 4 ∷ []; owner = 0 })
+  pub line-mask-7-maio-1 : lineOf traffic 4 0 0 ≡ accepted (record { arfcn = 10; standing = at Tch 0 0 0 ∷ at Tch 0 5 4 ∷ []; owner = 0 })
+  pub line-mask-15 : lineOf traffic 5 3 0 ≡ accepted (record { arfcn = 30; standing = at Sdcch 0 0 3 ∷ []; owner = 0 })
+  pub line-full-rate-sacch : lineOf traffic 1 25 0 ≡ accepted (record { arfcn = 10; standing = at Sacch 0 0 0 ∷ []; owner = 0 })
+  pub line-full-rate-idle : lineOf traffic 1 12 0 ≡ accepted (record { arfcn = 30; standing = []; owner = 0 })
+  pub line-half-rate-sacch : lineOf traffic 2 12 0 ≡ accepted (record { arfcn = 40; standing = at Sacch 0 0 0 ∷ []; owner = 0 })
+  pub line-sdcch8-sacch : lineOf traffic 5 102 1 ≡ accepted (record { arfcn = 30; standing = at Sacch 5 0 0 ∷ []; owner = 77 })
+  pub line-combined-fn-13 : lineOf combined 0 13 1 ≡ accepted (record { arfcn = 10; standing = at Sacch 3 0 3 ∷ []; owner = 78 })
+  pub line-combined-fn-14 : lineOf combined 0 14 1 ≡ accepted (record { arfcn = 10; standing = at Rach 0 2 0 ∷ []; owner = 0 })
+  pub line-combined-fn-64 : lineOf combined 0 64 1 ≡ accepted (record { arfcn = 10; standing = at Sacch 1 0 3 ∷ []; owner = 0 })
