@@ -1,6 +1,7 @@
 //! Nanoseconds for each call of the library, beside the second implementation of `tests/`,
 //! libosmocore and plain tables, on the same random inputs in one run.
 
+mod cell;
 mod osmocore;
 mod plain;
 mod timing;
@@ -176,7 +177,7 @@ fn field_by_field(answer: MapAnswer) -> u32 {
 }
 
 /// All fields added up.
-fn added_up(answer: MapAnswer) -> u32 {
+pub fn added_up(answer: MapAnswer) -> u32 {
     let blocks = answer.block + answer.place + answer.second_block + answer.second_place;
     u32::from(answer.channel) + u32::from(answer.subchannel + answer.blocks) + u32::from(blocks)
 }
@@ -225,7 +226,7 @@ fn main() {
     let mut random = Random(5);
     println!("Nanoseconds for each call, and the ratio of the library's to it");
     println!("(below 1: the library is quicker).");
-    timing::run(vec![
+    let mut tables = vec![
         clock_table(&mut random),
         position_table(&mut random),
         hop_table(&mut random),
@@ -233,5 +234,7 @@ fn main() {
         map_table(&mut random, "map, fields added up", added_up),
         map_table(&mut random, "map, channel read only", channel_only),
         map_table(&mut random, "map, answer stored", stored),
-    ]);
+    ];
+    tables.extend(cell::tables(&mut random));
+    timing::run(tables);
 }
