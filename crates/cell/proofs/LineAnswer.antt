@@ -6,7 +6,7 @@ use mathlib.Core.List.{List, [], _∷_, List·Memᴰ, List·Memᴰ·head}
 use mathlib.Core.Option.{some}
 use native.Mathlib.Omega.{arith}
 use lib.Seq.{getD-take}
-use borrow.Author.Tests.{le-ltb}
+use borrow.Author.Tests.{le-ltb, lt-leb}
 use Rattle.answers.specs.Outcome.{accepted, anyOf}
 use Rattle.answers.proofs.Decide.{passes, accepts, none-holds}
 use Rattle.answers.proofs.Tests.{lt-not-ltb}
@@ -86,7 +86,7 @@ module _ (first : Cell) (past : List Made) (sound : Sound first past) (n : ℕ) 
   pub line-is : lineOf (cellFrom first past) n fn d ≡ accepted (slotFrom first past n v fn d)
   unfolding lineOf
   line-is =
-      passes _ _ _ (le-ltb 63 n (let l = allowed-line first n v a in omega (arith, l)), (le-ltb 2715647 fn (omega arith), (le-ltb 1 d (omega arith), tt)))
+      passes _ _ _ (le-ltb 63 n (let l = allowed-line first n v a in omega (arith, l)), (lt-leb hyperframe fn hf, (le-ltb 1 d (omega arith), tt)))
       ∙ (passes _ _ _ (ap not opened, tt)
       ∙ (accepts _ ∙ ap accepted (ap (λ (l : LineState). slotOf (cellFrom first past) l fn d) (open-line first past sound n v e) ∙ slot-is)))
     where

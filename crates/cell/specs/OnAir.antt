@@ -2,10 +2,11 @@
 use Prim.Native.Nat.{ℕ}
 use mathlib.Core.Bool.{not, cond}
 use mathlib.Core.List.{List, [], _∷_}
-use lib.Dec.{ltb}
+use lib.Dec.{ltb, leb}
 use lib.ListN.{getD}
 use Rattle.answers.specs.Outcome.{Outcome, refused, accepted, Cause, cause, decide}
 use Rattle.answers.specs.Refusals.{refusalOf}
+use Rattle.clock.specs.Clock.{hyperframe}
 use Rattle.hopping.specs.Hopping.{positionOf}
 use Rattle.frame_map.specs.Channels.{Standing, isCommon}
 use Rattle.frame_map.specs.Map.{mapOf, carried}
@@ -45,7 +46,7 @@ slotOf c l fn direction =
 -- "3 line number (0 to 63), .. FN, direction (0 D, 1 U) .. out of range", "7 .. line on a closed line"
 abbrev pub lineCauses : Cell → ℕ → ℕ → ℕ → List Cause
 lineCauses c n fn direction =
-    cause 3 (ltb 63 n ∷ ltb 2715647 fn ∷ ltb 1 direction ∷ [])
+    cause 3 (ltb 63 n ∷ leb hyperframe fn ∷ ltb 1 direction ∷ [])
     ∷ cause 7 (not (isOpen (lineAt c n)) ∷ [])
     ∷ []
 

@@ -12,6 +12,7 @@ use allocation::find;
 use allocation::padded;
 use answers::Refusal;
 use clash::in_the_way;
+use clock::Frame;
 use common::misplaced;
 use common::needed;
 use frame_map::Content;
@@ -30,9 +31,6 @@ ghost use Rattle.cell.specs.Calls.{openRange, refusedCell, startOf, open
 ghost use Rattle.cell.specs.Helpers.{passOf};
 ghost use Rattle.cell.specs.OnAir.{lineOf, aired};
 ghost use Rattle.cell.specs.State.{tabulate, lineWith, free, closedLine};
-
-// FN is 0 to 2,715,647.
-const LAST_FRAME: u32 = 2_715_647;
 
 // A line: its six values and, for each subchannel, its owner (0 for free). A closed line has 0 everywhere.
 #[repr(C)]
@@ -276,7 +274,7 @@ pub fn release(cell: Cell, line: u32, s: u32, owner: u32) -> Changed
 pub fn line(cell: Cell, line: u32, number: u32, direction: u32) -> Aired
     ensures { λ r. ⌜ aired r ≡ lineOf cell line number direction ⌝ }
 {
-    if (line > 63) | ((number > LAST_FRAME) | (direction > 1)) {
+    if (line > 63) | ((number >= Frame::HYPERFRAME) | (direction > 1)) {
         return Aired::Refused(Refusal::OutOfRange);
     }
     let l = cell.lines[line as usize];
