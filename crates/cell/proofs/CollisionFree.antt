@@ -108,44 +108,44 @@ free-of first begun past sound =
     }
 
 -- what every run has
-pub record Held (first : Cell) (r : Run) : Type 0 where
+pub record Invariant (first : Cell) (r : Run) : Type 0 where
   pub as-listed : r .cell ≡ cellFrom first (r .past)
   pub sound : Sound first (r .past)
 
-collision-free-of : (first : Cell) → Begun first → (r : Run) → Held first r → CollisionFree first (r .past) (r .cell)
+collision-free-of : (first : Cell) → Begun first → (r : Run) → Invariant first r → CollisionFree first (r .past) (r .cell)
 collision-free-of first begun r h = subst (λ (c : Cell). CollisionFree first (r .past) c) (sym (h .as-listed)) (free-of first begun (r .past) (h .sound))
 
-begin-held : (first : Cell) → Begun first → Held first (begin first)
-begin-held first begun = record { as-listed = begun .nothing-open; sound = sound-first first }
+begin-keeps : (first : Cell) → Begun first → Invariant first (begin first)
+begin-keeps first begun = record { as-listed = begun .nothing-open; sound = sound-first first }
 
 -- a call whose outcome is the definition's keeps it
-step-held : (first : Cell) (r : Run) → Held first r → (x : Call) (s : Step) → s ≡ calling (r .cell) x → Held first (record { cell = s .cell; past = made x s ∷ r .past })
-step-held first r h x s e =
+step-keeps : (first : Cell) (r : Run) → Invariant first r → (x : Call) (s : Step) → s ≡ calling (r .cell) x → Invariant first (record { cell = s .cell; past = made x s ∷ r .past })
+step-keeps first r h x s e =
     let k : Kept first (r .past) (h .sound) x s = subst (Kept first (r .past) (h .sound) x) (ap (λ (c : Cell). calling c x) (sym (h .as-listed)) ∙ sym e) (call-kept first (r .past) (h .sound) x) in
     record { as-listed = k .0; sound = k .1 }
 
-run-held : (first : Cell) (calls : List Call) (r : Run) → Held first r → Held first (run r calls)
+run-keeps : (first : Cell) (calls : List Call) (r : Run) → Invariant first r → Invariant first (run r calls)
 unfolding run
-run-held first [] r h = h
-run-held first (x ∷ xs) r h = run-held first xs (next r x) (step-held first r h x (calling (r .cell) x) refl)
+run-keeps first [] r h = h
+run-keeps first (x ∷ xs) r h = run-keeps first xs (next r x) (step-keeps first r h x (calling (r .cell) x) refl)
 
 -- the third demand
 pub third-demand : ThirdDemand
 unfolding ThirdDemand
 third-demand ca c0 bcc ag p calls =
     let begun = start-begun ca c0 bcc ag p in
-    collision-free-of first begun (run (begin first) calls) (run-held first calls (begin first) (begin-held first begun))
+    collision-free-of first begun (run (begin first) calls) (run-keeps first calls (begin first) (begin-keeps first begun))
   where
     first : Cell
     first = startOf ca c0 bcc ag p .cell
 
 -- ---- the same of the code
 
-handed-held : (first : Cell) (calls : List Answered) (c : Cell) (past : List Made) → Held first (record { cell = c; past = past }) → Promised c calls → Held first (handed c past calls)
+handed-keeps : (first : Cell) (calls : List Answered) (c : Cell) (past : List Made) → Invariant first (record { cell = c; past = past }) → Promised c calls → Invariant first (handed c past calls)
 unfolding Promised handed
-handed-held first [] c past h p = h
-handed-held first (a ∷ more) c past h p =
-    handed-held first more (a .result .cell) _ (step-held first (record { cell = c; past = past }) h (a .call) (changed (a .result)) (p .0)) (p .1)
+handed-keeps first [] c past h p = h
+handed-keeps first (a ∷ more) c past h p =
+    handed-keeps first more (a .result .cell) _ (step-keeps first (record { cell = c; past = past }) h (a .call) (changed (a .result)) (p .0)) (p .1)
 
 pub third-demand-of-code : ThirdDemandOfCode
 unfolding ThirdDemandOfCode
@@ -159,4 +159,4 @@ third-demand-of-code ca c0 bcc ag p first e calls promised =
     end = handed (first .cell) [] calls
 
     free : CollisionFree (first .cell) (end .past) (end .cell)
-    free = collision-free-of (first .cell) begun end (handed-held (first .cell) calls (first .cell) [] (begin-held (first .cell) begun) promised)
+    free = collision-free-of (first .cell) begun end (handed-keeps (first .cell) calls (first .cell) [] (begin-keeps (first .cell) begun) promised)
