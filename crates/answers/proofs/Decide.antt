@@ -10,7 +10,7 @@ use mathlib.Core.Logic.{⊎-elim}
 use native.Mathlib.Omega.{arith}
 use borrow.Author.Tests.{ltb-true}
 use lib.Dec.{ltb}
-use Rattle.answers.specs.Outcome.{Refused, Outcome, refused, accepted, alone, Cause, anyOf, decide, ascendingFrom}
+use Rattle.answers.specs.Outcome.{Refused, Outcome, refused, accepted, alone, Cause, anyOf, decide, ascending, ascendingFrom}
 use Rattle.answers.proofs.Tests.{and-left, and-right, or-left, or-right, or-none, or-false, not-both}
 
 -- ---- at a call's returns
@@ -195,15 +195,16 @@ module _ {A : Type 0} (answer : A) where
           (List·Memᴰ·cases-cons m)
 
   -- an accepted call had no cause, and gives the answer
-  pub accepted-has-none : (cs : List Cause) (b : A) → decide cs answer ≡ accepted b → (answer ≡ b) × ((c : Cause) → List·Memᴰ c cs → anyOf (c .conditions) ≡ false)
-  accepted-has-none [] b h = (cc (accepts answer), λ c m. absurd (List·Memᴰ·not-nil m))
-  accepted-has-none (d ∷ ds) b h = go (anyOf (d .conditions)) refl (accepted-has-none ds b)
-    where
-      Free : List Cause → Type 0
-      Free cs = (answer ≡ b) × ((c : Cause) → List·Memᴰ c cs → anyOf (c .conditions) ≡ false)
+  pub accepted-has-none : (cs : List Cause) (b : A) → decide cs answer ≡ accepted b → (answer ≡ b) × NoCause cs
+  accepted-has-none cs b =
+      decided cs answer (λ (o : Outcome A). o ≡ accepted b → (answer ≡ b) × NoCause cs) (λ r e. absurd (let z : _≡_ {A = ℕ} 0 1 = cc in omega arith))
+      (λ none e. (let z : answer ≡ b = cc in z, none))
 
-      go : (t : Bool) → anyOf (d .conditions) ≡ t → (decide ds answer ≡ accepted b → Free ds) → Free (d ∷ ds)
-      go true e more = absurd (let z : _≡_ {A = ℕ} 0 1 = cc (first d ds answer e) in omega arith)
-      go false e more =
-          let w = more (sym (rest d ds answer e) ∙ h) in
-          (w .0, λ c m. ⊎-elim (λ q. ap (λ (x : Cause). anyOf (x .conditions)) q ∙ e) (λ l. w .1 c l) (List·Memᴰ·cases-cons m))
+  -- all of that
+  pub record FairAnswer (cs : List Cause) (o : Outcome A) : Type 0 where
+    pub caused : (r : Refused) → o ≡ refused r → Caused cs r
+    pub lowest : (r : Refused) → o ≡ refused r → (c : Cause) → List·Memᴰ c cs → anyOf (c .conditions) ≡ true → r .number ≤ c .refusal .number
+    pub no-cause : (b : A) → o ≡ accepted b → (answer ≡ b) × NoCause cs
+
+  pub fair-answer : (cs : List Cause) → ascending cs ≡ true → FairAnswer cs (decide cs answer)
+  fair-answer cs h = record { caused = refused-has-cause cs; lowest = λ r. refused-is-lowest 0 cs r h; no-cause = accepted-has-none cs }

@@ -1,3 +1,4 @@
+pub mod Count
 pub mod Decide
 pub mod Refusals
 pub mod Search

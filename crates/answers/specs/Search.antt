@@ -1,5 +1,5 @@
--- Tests over all numbers below a bound, and the least number that passes a test. Assumes nothing.
-use Prim.Native.Nat.{ℕ, zero, suc}
+-- Tests over all numbers below a bound: whether all, some or how many pass, and the least that does. Assumes nothing.
+use Prim.Native.Nat.{ℕ, zero, suc, _+_}
 use mathlib.Core.Bool.{Bool, true, false, _&&_, _||_, cond}
 
 -- the test holds of every number below n
@@ -16,3 +16,8 @@ anyBelow test (suc n) = anyBelow test n || test n
 unfoldable pub least : (ℕ → Bool) → ℕ → ℕ → ℕ
 least test zero d = d
 least test (suc n) d = least test n (cond (test n) n d)
+
+-- how many numbers below n pass the test
+unfoldable pub countBelow : (ℕ → Bool) → ℕ → ℕ
+countBelow test zero = 0
+countBelow test (suc n) = countBelow test n + cond (test n) 1 0

@@ -2,20 +2,20 @@
 -- cause, and leaves the cell that document 01 describes. The line that 9 names is the smallest in the way. Assumes nothing.
 use Prim.Native.Nat.{ℕ, _≤_}
 use mathlib.Core.Path.{_≡_, refl, sym, ap, _∙_}
-use mathlib.Core.Bool.{true, false}
+use mathlib.Core.Bool.{true}
 use mathlib.Core.List.{List, [], _∷_, List·Memᴰ}
 use mathlib.Core.Logic.{⊎-elim}
 use mathlib.Core.Option.{none, some}
 use native.Mathlib.Omega.{arith}
 use Rattle.answers.specs.Outcome.{Refused, Outcome, refused, accepted, Cause, anyOf, decide, ascending, ascendingFrom}
 use Rattle.answers.specs.Search.{anyBelow}
-use Rattle.answers.proofs.Decide.{Caused, refused-has-cause, refused-is-lowest, accepted-has-none, NoCause, decided}
+use Rattle.answers.proofs.Decide.{Caused, refused-has-cause, refused-is-lowest, FairAnswer, fair-answer, NoCause, decided}
 use Rattle.answers.proofs.Search.{any-none, First, first-or-none, least-first}
 use Rattle.answers.proofs.Tests.{or-false, not-both}
 use Rattle.cell.specs.declared.Cell.{Cell}
 use Rattle.cell.specs.State.{Values, lineCount, lineWith, free, closedLine, lineAt, empty}
 use Rattle.cell.specs.Calls.{Step, step, startCauses, refusedCell, startOf, withLine, withOwner, inTheWay, clashCause, openCauses, openOf, closeCauses, closeOf, seizeCauses, seizeOf, releaseCauses, releaseOf}
-use Rattle.cell.specs.OnAir.{Slot, slotOf, lineCauses, lineOf}
+use Rattle.cell.specs.OnAir.{slotOf, lineCauses, lineOf}
 
 -- the causes of a call, the cell before it and the one after it if it is accepted, and what it hands back
 pub record Fair (cs : List Cause) (before after : Cell) (s : Step) : Type 0 where
@@ -75,24 +75,9 @@ module _ (c : Cell) (n : ℕ) where
   release-fair s o = fair _ _ _ refl
 
   -- `line` hands back no cell
-  module _ (fn direction : ℕ) where
-    line-ascends : ascending (lineCauses c n fn direction) ≡ true
-    unfolding ascendingFrom
-    line-ascends = refl
-
-    pub line-caused : (r : Refused) → lineOf c n fn direction ≡ refused r → Caused (lineCauses c n fn direction) r
-    unfolding lineOf
-    line-caused r e = refused-has-cause _ (lineCauses c n fn direction) r e
-
-    pub line-lowest : (r : Refused) → lineOf c n fn direction ≡ refused r
-        → (x : Cause) → List·Memᴰ x (lineCauses c n fn direction) → anyOf (x .conditions) ≡ true → r .number ≤ x .refusal .number
-    unfolding lineOf
-    line-lowest r e = refused-is-lowest _ 0 (lineCauses c n fn direction) r line-ascends e
-
-    pub line-no-cause : (a : Slot) → lineOf c n fn direction ≡ accepted a
-        → (slotOf c (lineAt c n) fn direction ≡ a) × ((x : Cause) → List·Memᴰ x (lineCauses c n fn direction) → anyOf (x .conditions) ≡ false)
-    unfolding lineOf
-    line-no-cause a e = accepted-has-none _ (lineCauses c n fn direction) a e
+  pub line-fair : (fn direction : ℕ) → FairAnswer (slotOf c (lineAt c n) fn direction) (lineCauses c n fn direction) (lineOf c n fn direction)
+  unfolding lineOf ascendingFrom
+  line-fair fn direction = fair-answer _ (lineCauses c n fn direction) refl
 
 -- the line that 9 names is in the way, and none below it is
 pub record Smallest (c : Cell) (v : Values) : Type 0 where

@@ -106,6 +106,10 @@ module _ (ca : List ℕ) (h : isAllocation ca ≡ true) where
   unfolding isAllocation
   placed k l = all-at (inPlace ca) (length ca) (and-right (ltb 0 (length ca) && leb (length ca) 64) _ h) k l
 
+  -- every entry is an ARFCN
+  pub entry-arfcn : (k : ℕ) → k < length ca → getD ca k 0 < 1024
+  entry-arfcn k l = ltb-true _ _ (and-left (ltb (getD ca k 0) 1024) _ (placed k l))
+
   next : (k : ℕ) → suc k < length ca → getD ca k 0 < getD ca (suc k) 0
   next k l =
       let order : precedes (getD ca (suc k - 1) 0) (getD ca (suc k) 0) ≡ true =
