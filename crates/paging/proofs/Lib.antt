@@ -1,0 +1,9 @@
+pub mod Remainders
+pub mod FirstHit
+pub mod Group
+pub mod BlockFrames
+pub mod PagedFrames
+pub mod FirstBlock
+pub mod Imsi
+pub mod Drill
+pub mod Causes
