@@ -16,6 +16,7 @@ use Rattle.cell.specs.declared.Cell.{Cell}
 use Rattle.cell.specs.State.{Values, lineCount, lineWith, free, closedLine, lineAt, empty}
 use Rattle.cell.specs.Calls.{Step, step, startCauses, refusedCell, startOf, withLine, withOwner, inTheWay, clashCause, openCauses, openOf, closeCauses, closeOf, seizeCauses, seizeOf, releaseCauses, releaseOf}
 use Rattle.cell.specs.OnAir.{slotOf, lineCauses, lineOf}
+use Rattle.cell.specs.Who.{whoCauses, matchOf, whoOf}
 
 -- the causes of a call, the cell before it and the one after it if it is accepted, and what it hands back
 pub record Fair (cs : List Cause) (before after : Cell) (s : Step) : Type 0 where
@@ -74,10 +75,14 @@ module _ (c : Cell) (n : ℕ) where
   unfolding releaseOf ascendingFrom
   release-fair s o = fair _ _ _ refl
 
-  -- `line` hands back no cell
+  -- `line` and `who` hand back no cell
   pub line-fair : (fn direction : ℕ) → FairAnswer (slotOf c (lineAt c n) fn direction) (lineCauses c n fn direction) (lineOf c n fn direction)
   unfolding lineOf ascendingFrom
   line-fair fn direction = fair-answer _ (lineCauses c n fn direction) refl
+
+pub who-fair : (c : Cell) (tn arfcn fn direction : ℕ) → FairAnswer (matchOf c tn arfcn fn direction) (whoCauses tn arfcn fn direction) (whoOf c tn arfcn fn direction)
+unfolding whoOf ascendingFrom
+who-fair c tn arfcn fn direction = fair-answer _ (whoCauses tn arfcn fn direction) refl
 
 -- the line that 9 names is in the way, and none below it is
 pub record Smallest (c : Cell) (v : Values) : Type 0 where

@@ -9,6 +9,7 @@ use mathlib.Core.Option.{some}
 use lib.Dec.{eqb}
 use borrow.Author.Tests.{eqb-true, eqb-false, not-true}
 use Rattle.answers.proofs.Tests.{and-left, and-right, not-both}
+use Rattle.hopping.specs.Hopping.{lineArfcn}
 use Rattle.hopping.specs.Masks.{oneAtOrAbove}
 use Rattle.hopping.proofs.Apart.{Fit, apart}
 use Rattle.frame_map.specs.Channels.{isCommon}
@@ -25,6 +26,24 @@ use Rattle.cell.proofs.Sound.{allowed-within, allowed-maio, allowed-tn,
 use Rattle.cell.proofs.LineAnswer.{line-is}
 use Rattle.cell.proofs.Shown.{stands-shown, shown-stands}
 use Rattle.cell.proofs.Begun.{Begun, start-begun}
+
+-- ---- two open lines of one timeslot have different ARFCNs in every frame
+
+module _ (first : Cell) (begun : Begun first) (past : List Made) (sound : Sound first past) where
+  fit : (n : ℕ) (v : Values) → openedWith past n ≡ some v → Fit (allocation first) (physical v)
+  fit n v e =
+      let a = sound .allowed n v e in
+      record {
+        within = subst (λ (k : ℕ). oneAtOrAbove (v .mask) k ≡ false) (sym (begun .known-length)) (allowed-within first n v a);
+        maio-below = allowed-maio first n v a;
+      }
+
+  pub lines-apart : (n m : ℕ) (v w : Values) → (n ≡ m → ⊥) → openedWith past n ≡ some v → openedWith past m ≡ some w → v .tn ≡ w .tn
+      → (fn : ℕ) → lineArfcn (allocation first) (v .mask) (v .hsn) (v .maio) fn ≡ lineArfcn (allocation first) (w .mask) (w .hsn) (w .maio) fn → ⊥
+  lines-apart n m v w d ev ew t fn e =
+      ⊎-elim (λ c. apart (allocation first) (physical v) (physical w) (begun .is-allocation) (fit n v ev) (fit m w ew) t c fn e)
+      (λ c. apart (allocation first) (physical w) (physical v) (begun .is-allocation) (fit m w ew) (fit n v ev) (sym t) c fn (sym e))
+      (sound .clear n m v w d ev ew)
 
 -- ---- two channels in one spot are one
 
@@ -45,33 +64,11 @@ module _ (first : Cell) (begun : Begun first) (past : List Made) (sound : Sound 
       not-both {b = isCommon (r .kind)} hx (ap isCommon (e .0) ∙ not-true _ (and-left (not (isCommon (q .kind))) _ hy))
   of-line n (commonPart i) (commonPart j) r q a b e hx hy = ap commonPart (a ∙ sym b)
 
-  fit : (n : ℕ) (v : Values) → openedWith past n ≡ some v → Fit (allocation first) (physical v)
-  fit n v e =
-      let a = sound .allowed n v e in
-      record {
-        within = subst (λ (k : ℕ). oneAtOrAbove (v .mask) k ≡ false) (sym (begun .known-length)) (allowed-within first n v a);
-        maio-below = allowed-maio first n v a;
-      }
-
   -- of two lines: their timeslots or ARFCNs differ
   of-lines : (x y : Channel) → (lineNumber x ≡ lineNumber y → ⊥) → Stands first past x spot → Stands first past y spot → ⊥
   of-lines x y d a b =
-      ⊎-elim
-      (λ c. apart (allocation first) (physical v) (physical w) (begun .is-allocation) fv fw (a .in-timeslot ∙ sym (b .in-timeslot)) c (spot .fn) (a .on-arfcn ∙ sym (b .on-arfcn)))
-      (λ c. apart (allocation first) (physical w) (physical v) (begun .is-allocation) fw fv (b .in-timeslot ∙ sym (a .in-timeslot)) c (spot .fn) (b .on-arfcn ∙ sym (a .on-arfcn)))
-      (sound .clear (lineNumber x) (lineNumber y) v w d (a .is-open) (b .is-open))
-    where
-      v : Values
-      v = a .values
-
-      w : Values
-      w = b .values
-
-      fv : Fit (allocation first) (physical v)
-      fv = fit (lineNumber x) v (a .is-open)
-
-      fw : Fit (allocation first) (physical w)
-      fw = fit (lineNumber y) w (b .is-open)
+      lines-apart first begun past sound (lineNumber x) (lineNumber y) (a .values) (b .values) d (a .is-open) (b .is-open)
+      (a .in-timeslot ∙ sym (b .in-timeslot)) (spot .fn) (a .on-arfcn ∙ sym (b .on-arfcn))
 
   one-spot : (x y : Channel) → Stands first past x spot → Stands first past y spot → x ≡ y
   one-spot x y a b = go (eqb (lineNumber x) (lineNumber y)) refl
@@ -115,16 +112,16 @@ pub record Invariant (first : Cell) (r : Run) : Type 0 where
 collision-free-of : (first : Cell) → Begun first → (r : Run) → Invariant first r → CollisionFree first (r .past) (r .cell)
 collision-free-of first begun r h = subst (λ (c : Cell). CollisionFree first (r .past) c) (sym (h .as-listed)) (free-of first begun (r .past) (h .sound))
 
-begin-keeps : (first : Cell) → Begun first → Invariant first (begin first)
+pub begin-keeps : (first : Cell) → Begun first → Invariant first (begin first)
 begin-keeps first begun = record { as-listed = begun .nothing-open; sound = sound-first first }
 
 -- a call whose outcome is the definition's keeps it
-step-keeps : (first : Cell) (r : Run) → Invariant first r → (x : Call) (s : Step) → s ≡ calling (r .cell) x → Invariant first (record { cell = s .cell; past = made x s ∷ r .past })
+pub step-keeps : (first : Cell) (r : Run) → Invariant first r → (x : Call) (s : Step) → s ≡ calling (r .cell) x → Invariant first (record { cell = s .cell; past = made x s ∷ r .past })
 step-keeps first r h x s e =
     let k : Kept first (r .past) (h .sound) x s = subst (Kept first (r .past) (h .sound) x) (ap (λ (c : Cell). calling c x) (sym (h .as-listed)) ∙ sym e) (call-kept first (r .past) (h .sound) x) in
     record { as-listed = k .0; sound = k .1 }
 
-run-keeps : (first : Cell) (calls : List Call) (r : Run) → Invariant first r → Invariant first (run r calls)
+pub run-keeps : (first : Cell) (calls : List Call) (r : Run) → Invariant first r → Invariant first (run r calls)
 unfolding run
 run-keeps first [] r h = h
 run-keeps first (x ∷ xs) r h = run-keeps first xs (next r x) (step-keeps first r h x (calling (r .cell) x) refl)

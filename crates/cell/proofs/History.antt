@@ -3,13 +3,15 @@ use Prim.Native.Nat.{ℕ, _<_}
 use mathlib.Core.Path.{_≡_, refl, sym, ap, _∙_}
 use mathlib.Core.Bool.{Bool, true, false, _&&_, cond}
 use mathlib.Core.List.{List, [], _∷_}
+use mathlib.Core.Logic.{_⊎_, inl, inr}
 use mathlib.Core.Option.{Option, none, some}
+use native.Mathlib.Omega.{arith}
 use lib.Dec.{eqb}
-use borrow.Author.Tests.{eq-eqb, ne-eqb}
+use borrow.Author.Tests.{eq-eqb, ne-eqb, eqb-true, eqb-false}
 use Rattle.answers.proofs.Tests.{and-both, and-false-right}
 use Rattle.cell.specs.declared.LineState.{LineState}
 use Rattle.cell.specs.State.{Values, ownerRoom, lineWith}
-use Rattle.cell.specs.History.{Call, Made, lastAccepted, opensOrCloses, valuesIn, openedWith, since, seizesOrReleases, ownerIn, heldBy, lineOr}
+use Rattle.cell.specs.History.{Call, opens, closes, Made, lastAccepted, opensOrCloses, valuesIn, openedWith, since, seizesOrReleases, ownerIn, heldBy, lineOr}
 use Rattle.cell.proofs.Tabulate.{tabulate-same}
 
 -- the call, accepted
@@ -44,6 +46,27 @@ module _ (past : List Made) where
     other-held k s d e =
         ap (λ (t : Bool). ownerIn (lastAccepted (seizesOrReleases k s) (cond t [] (wasAccepted x ∷ since k past)))) (names k ∙ ne-eqb n k (λ q. d (sym q)))
         ∙ ap (λ (t : Bool). ownerIn (cond t (some x) (lastAccepted (seizesOrReleases k s) (since k past)))) e
+
+  -- a line that is open after an open is the one that was named, or was open before
+  pub open-after-open : (n : ℕ) (v : Values) (k : ℕ) (w : Values) → openedWith (wasAccepted (opens n v) ∷ past) k ≡ some w
+      → ((k ≡ n) × (v ≡ w)) ⊎ (openedWith past k ≡ some w)
+  open-after-open n v k w e = go (eqb k n) refl
+    where
+      go : (b : Bool) → eqb k n ≡ b → ((k ≡ n) × (v ≡ w)) ⊎ (openedWith past k ≡ some w)
+      go true q =
+          let r : openedWith (wasAccepted (opens n v) ∷ past) k ≡ some v = ap (openedWith (wasAccepted (opens n v) ∷ past)) (eqb-true k n q) ∙ named-opened (opens n v) n (λ i. refl) in
+          inl (eqb-true k n q, (let z : v ≡ w = cc in z))
+      go false q = inr (sym (other-opened (opens n v) n (λ i. refl) k (eqb-false k n q)) ∙ e)
+
+  -- a line that is open after a close is another one, and was open before
+  pub open-after-close : (n k : ℕ) (v : Values) → openedWith (wasAccepted (closes n) ∷ past) k ≡ some v → (k ≡ n → ⊥) × (openedWith past k ≡ some v)
+  open-after-close n k v e = go (eqb k n) refl
+    where
+      go : (b : Bool) → eqb k n ≡ b → (k ≡ n → ⊥) × (openedWith past k ≡ some v)
+      go true q =
+          absurd (let r : openedWith (wasAccepted (closes n) ∷ past) k ≡ none = ap (openedWith (wasAccepted (closes n) ∷ past)) (eqb-true k n q) ∙ named-opened (closes n) n (λ i. refl) in
+          let z : _≡_ {A = ℕ} 0 1 = cc in omega arith)
+      go false q = (eqb-false k n q, sym (other-opened (closes n) n (λ i. refl) k (eqb-false k n q)) ∙ e)
 
   -- ---- seize and release
 

@@ -10,3 +10,8 @@ pub mod Begun
 pub mod CollisionFree
 pub mod ExampleRun
 pub mod Causes
+pub mod Places
+pub mod CommonLines
+pub mod Known
+pub mod PageAndLine
+pub mod WhoAndLine

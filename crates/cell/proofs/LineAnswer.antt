@@ -36,7 +36,8 @@ module _ (first : Cell) (n : ℕ) (v : Values) (a : Allowed first n v) (fn : ℕ
   position =
       passes _ _ _ (lt-not-ltb (v .hsn) 64 (allowed-hsn first n v a), (lt-not-ltb fn hyperframe hf, tt)) ∙ (passes _ _ _ (a .mask) ∙ (passes _ _ _ (a .maio) ∙ accepts _))
 
-  arfcn-is : entryAt (first .ca) (positionOf (first .length) (v .mask) (v .hsn) (v .maio) fn) ≡ lineArfcn (allocation first) (v .mask) (v .hsn) (v .maio) fn
+  -- the ARFCN is the one that the hopping rules give
+  pub arfcn-is : entryAt (first .ca) (positionOf (first .length) (v .mask) (v .hsn) (v .maio) fn) ≡ lineArfcn (allocation first) (v .mask) (v .hsn) (v .maio) fn
   arfcn-is =
       ap (entryAt (first .ca)) position
       ∙ sym (getD-take (first .length) (first .ca) (linePosition (v .mask) (v .hsn) (v .maio) fn) 0 (line-within (v .mask) (v .hsn) (v .maio) fn (allowed-maio first n v a) (first .length) (allowed-within first n v a)))

@@ -1,14 +1,14 @@
 -- What every history of calls has, whatever the list: the open lines are allowed, and no two of them clash. Kept by each call. Assumes nothing.
 use Prim.Native.Nat.{ℕ, _<_}
 use mathlib.Core.Path.{_≡_, refl, sym, ap, _∙_, subst}
-use mathlib.Core.Bool.{Bool, true, false, not, _&&_}
+use mathlib.Core.Bool.{true, false, not, _&&_}
 use mathlib.Core.List.{List, [], _∷_}
 use mathlib.Core.Logic.{_⊎_, inl, inr}
 use mathlib.Core.Option.{Option, none, some}
 use native.Mathlib.Omega.{arith}
-use lib.Dec.{eqb, ltb}
+use lib.Dec.{ltb}
 use lib.ListN.{length}
-use borrow.Author.Tests.{eqb-true, eqb-false, ltb-true, ltb-false, ne-eqb, not-false}
+use borrow.Author.Tests.{ltb-true, ltb-false, ne-eqb, not-false}
 use Rattle.answers.specs.Outcome.{Outcome}
 use Rattle.answers.specs.Search.{anyBelow}
 use Rattle.answers.proofs.Decide.{None, decided}
@@ -24,7 +24,7 @@ use Rattle.cell.specs.State.{Values, lineCount, lineWith, closedLine, is
 use Rattle.cell.specs.Calls.{Step, step, openRange, noAllocation, noMaio, physical, linePhysical, inTheWay, openCauses, openOf, closeCauses, closeOf, seizeCauses, seizeOf, releaseCauses, releaseOf}
 use Rattle.cell.specs.History.{Call, opens, closes, seizes, releases, Made, openedWith, lastAccepted, heldBy, lineOr, cellFrom}
 use Rattle.cell.specs.CollisionFree.{calling, made}
-use Rattle.cell.proofs.History.{wasAccepted, wasRefused, named-opened, other-opened, still-opened}
+use Rattle.cell.proofs.History.{wasAccepted, wasRefused, open-after-open, open-after-close, still-opened}
 use Rattle.cell.proofs.AsListed.{line-listed, refused-listed, opened-listed, closed-listed, owner-listed}
 
 -- the numbers of an open line are in range, its mask fits CA and its MAIO is below N
@@ -92,30 +92,14 @@ module _ (first : Cell) (past : List Made) (sound : Sound first past) where
 
   sound-closed : (n : ℕ) → Sound first (wasAccepted (closes n) ∷ past)
   sound-closed n =
-      record { allowed = λ k v e. sound .allowed k v (old k v e); clear = λ k m v w d e f. sound .clear k m v w d (old k v e) (old m w f) }
-    where
-      old : (k : ℕ) (v : Values) → openedWith (wasAccepted (closes n) ∷ past) k ≡ some v → openedWith past k ≡ some v
-      old k v e = go (eqb k n) refl
-        where
-          go : (b : Bool) → eqb k n ≡ b → openedWith past k ≡ some v
-          go true q =
-              absurd (let r : openedWith (wasAccepted (closes n) ∷ past) k ≡ none = ap (openedWith (wasAccepted (closes n) ∷ past)) (eqb-true k n q) ∙ named-opened past (closes n) n (λ i. refl) in
-              let z : _≡_ {A = ℕ} 0 1 = cc in omega arith)
-          go false q = sym (other-opened past (closes n) n (λ i. refl) k (eqb-false k n q)) ∙ e
+      record {
+        allowed = λ k v e. sound .allowed k v (open-after-close past n k v e .1);
+        clear = λ k m v w d e f. sound .clear k m v w d (open-after-close past n k v e .1) (open-after-close past n m w f .1);
+      }
 
   module _ (n : ℕ) (v : Values) (a : Allowed first n v) (free : (m : ℕ) (w : Values) → openedWith past m ≡ some w → clash (physical v) (physical w) ≡ false) where
-    -- a line that is open afterwards is the one that was named, or was open before
-    which : (k : ℕ) (w : Values) → openedWith (wasAccepted (opens n v) ∷ past) k ≡ some w → ((k ≡ n) × (v ≡ w)) ⊎ (openedWith past k ≡ some w)
-    which k w e = go (eqb k n) refl
-      where
-        go : (b : Bool) → eqb k n ≡ b → ((k ≡ n) × (v ≡ w)) ⊎ (openedWith past k ≡ some w)
-        go true q =
-            let r : openedWith (wasAccepted (opens n v) ∷ past) k ≡ some v = ap (openedWith (wasAccepted (opens n v) ∷ past)) (eqb-true k n q) ∙ named-opened past (opens n v) n (λ i. refl) in
-            inl (eqb-true k n q, (let z : v ≡ w = cc in z))
-        go false q = inr (sym (other-opened past (opens n v) n (λ i. refl) k (eqb-false k n q)) ∙ e)
-
     sound-opened : Sound first (wasAccepted (opens n v) ∷ past)
-    sound-opened = record { allowed = λ k w e. may k w (which k w e); clear = λ k m w u d e f. apart k m w u d (which k w e) (which m u f) }
+    sound-opened = record { allowed = λ k w e. may k w (open-after-open past n v k w e); clear = λ k m w u d e f. apart k m w u d (open-after-open past n v k w e) (open-after-open past n v m u f) }
       where
         Which : ℕ → Values → Type 0
         Which k w = ((k ≡ n) × (v ≡ w)) ⊎ (openedWith past k ≡ some w)

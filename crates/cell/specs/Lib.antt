@@ -1,8 +1,11 @@
-pub mod State
 pub mod Calls
-pub mod Helpers
-pub mod OnAir
-pub mod History
 pub mod Carried
 pub mod CollisionFree
 pub mod ExampleRun
+pub mod Helpers
+pub mod History
+pub mod OnAir
+pub mod Paging
+pub mod Reached
+pub mod State
+pub mod Who

@@ -28,6 +28,10 @@ abbrev pub entryAt : List ℕ → Outcome ℕ → ℕ
 entryAt ca (refused r) = 0
 entryAt ca (accepted p) = getD ca p 0
 
+-- the ARFCN of line l in a frame
+abbrev pub arfcnIn : Cell → LineState → ℕ → ℕ
+arfcnIn c l fn = entryAt (c .ca) (positionOf (c .length) (l .mask) (l .hsn) (l .maio) fn)
+
 -- what the map has. The calls hand back no cell with an open line that the map refuses; were there one, it would be idle
 abbrev pub inFrame : Outcome (List Standing) → List Standing
 inFrame (refused r) = []
@@ -41,7 +45,7 @@ ownerOf owners (x ∷ xs) = cond (isCommon (x .kind)) 0 (owners (x .subchannel))
 -- what line l of the cell sends
 unfoldable pub slotOf : Cell → LineState → ℕ → ℕ → Slot
 slotOf c l fn direction =
-    record { arfcn = entryAt (c .ca) (positionOf (c .length) (l .mask) (l .hsn) (l .maio) fn); standing = inFrame (mapOf (l .combination) (l .tn) fn direction); owner = ownerOf (ownerAt l) (inFrame (mapOf (l .combination) (l .tn) fn direction)) }
+    record { arfcn = arfcnIn c l fn; standing = inFrame (mapOf (l .combination) (l .tn) fn direction); owner = ownerOf (ownerAt l) (inFrame (mapOf (l .combination) (l .tn) fn direction)) }
 
 -- "3 line number (0 to 63), .. FN, direction (0 D, 1 U) .. out of range", "7 .. line on a closed line"
 abbrev pub lineCauses : Cell → ℕ → ℕ → ℕ → List Cause

@@ -15,13 +15,12 @@ ghost use Rattle.frame_map.specs.Map.{mapOf, carried};
 ghost use Rattle.cell.specs.OnAir.{entryAt, inFrame, ownerOf, slotOf, slotIn};
 ghost use Rattle.cell.specs.State.{ownerAt};
 
-// The entry of the cell allocation at the line's position.
-fn arfcn(cell: Cell, l: LineState, number: u32) -> u32
-    ensures { λ r. ⌜ r ≡ entryAt (cell .ca) (positionOf (cell .length) (l .mask) (l .hsn) (l .maio) number) ⌝ }
+// The entry at the line's position.
+pub(crate) fn arfcn(ca: &[u16], length: u32, l: LineState, number: u32) -> u32
+    ensures { λ r. ⌜ r ≡ entryAt (now (ca .entry)) (positionOf length (l .mask) (l .hsn) (l .maio) number) ⌝ }
 {
-    let ca = cell.ca;
-    match hopping::position(cell.length, l.mask, l.hsn, l.maio, number) {
-        Positioned::At(p) => entry(&ca, p),
+    match hopping::position(length, l.mask, l.hsn, l.maio, number) {
+        Positioned::At(p) => entry(ca, p),
         Positioned::Refused(_) => 0,
     }
 }
@@ -70,8 +69,9 @@ pub(crate) fn on_air(cell: Cell, l: LineState, number: u32, direction: u32) -> O
     ensures { λ r. ⌜ slotIn r ≡ slotOf cell l number direction ⌝ }
 {
     let content = content(l.combination, l.tn, number, direction);
+    let ca = cell.ca;
     OnAir {
-        arfcn: arfcn(cell, l, number),
+        arfcn: arfcn(&ca, cell.length, l, number),
         content,
         owner: owner(l, content),
     }

@@ -1,13 +1,15 @@
-// Where a common channel may stand: refusal 8.
+// Where a common channel may stand (refusal 8), and the common lines as paging counts them.
 use crate::Cell;
 use crate::LineState;
 use hopping::allocation::entry;
 use hopping::masks::contains;
+ghost use mathlib.Core.Bool.{cond};
 ghost use mathlib.Core.Path.{_≡_};
 ghost use Prim.Native.Nat.{_-_};
 ghost use Rattle.answers.specs.Outcome.{anyOf};
-ghost use Rattle.cell.specs.Calls.{anyLine, misplaced, isCommonCombination, hasC0, c0Alone, needed};
+ghost use Rattle.cell.specs.Calls.{anyLine, hasCombination, misplaced, isCommonCombination, hasC0, c0Alone, needed};
 ghost use Rattle.cell.specs.Helpers.{wants};
+ghost use Rattle.cell.specs.Paging.{commonLines};
 
 // A line that is looked for.
 pub(crate) enum Wanted {
@@ -119,4 +121,33 @@ pub(crate) fn needed(cell: Cell, l: LineState) -> bool
 {
     let higher = wide(l.tn) + 2;
     ((l.combination == 4) | (l.combination == 6)) & any_line(cell, Wanted::In(6, higher))
+}
+
+fn one_if(common: bool) -> u32
+    ensures { λ r. ⌜ r ≡ cond common 1 0 ⌝ }
+{
+    if common {
+        return 1;
+    }
+    0
+}
+
+// How many open lines are of combination 4, 5 or 6.
+pub(crate) fn common_lines(cell: Cell) -> u32
+    ensures { λ r. ⌜ r ≡ commonLines cell ⌝ }
+{
+    let mut count = 0;
+    let mut n = 0;
+    while n < 64 {
+        count += one_if(is_common(cell.lines[n].combination));
+        n += 1;
+    }
+    count
+}
+
+// Some open line is of combination 5.
+pub(crate) fn has_combined(cell: Cell) -> bool
+    ensures { λ r. ⌜ r ≡ anyLine cell (hasCombination 5) ⌝ }
+{
+    any_line(cell, Wanted::Of(5))
 }

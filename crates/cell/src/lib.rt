@@ -1,10 +1,11 @@
 // The cell: its table of lines, and the calls on it. Document 01, "The cell and its calls". common.rt has the places of common channels (refusal
-// 8), clash.rt the line that stands in the way (9), subchannels.rt the owners of a line, air.rt what a line sends in a frame, allocation.rt the
-// cell allocation.
+// 8), clash.rt the line that stands in the way (9), subchannels.rt the owners of a line, air.rt what a line sends in a frame, seek.rt the line
+// that has an ARFCN, allocation.rt the cell allocation.
 mod air;
 mod allocation;
 mod clash;
 mod common;
+mod seek;
 mod subchannels;
 
 use air::on_air;
@@ -13,12 +14,16 @@ use allocation::padded;
 use answers::Refusal;
 use clash::in_the_way;
 use clock::Frame;
+use common::common_lines;
+use common::has_combined;
 use common::misplaced;
 use common::needed;
 use frame_map::Content;
 use frame_map::is_combination;
 use hopping::allocation::is_allocation;
 use hopping::masks::one_at_or_above;
+use paging::Paged;
+use seek::first_on;
 use subchannels::bad_owner;
 use subchannels::owner_at;
 use subchannels::some_held;
@@ -30,6 +35,9 @@ ghost use Rattle.answers.specs.Refusals.{refusalOf};
 ghost use Rattle.cell.specs.Calls.{openRange, refusedCell, startOf, openOf, closeOf, seizeOf, releaseOf, changed};
 ghost use Rattle.cell.specs.Helpers.{passOf};
 ghost use Rattle.cell.specs.OnAir.{lineOf, aired};
+ghost use Rattle.cell.specs.Paging.{pageOf};
+ghost use Rattle.cell.specs.Who.{whoOf, sought};
+ghost use Rattle.paging.specs.Paging.{paged};
 ghost use Rattle.cell.specs.State.{tabulate, lineWith, free, closedLine};
 
 // A line: its six values and, for each subchannel, its owner (0 for free). A closed line has 0 everywhere.
@@ -76,6 +84,18 @@ pub struct OnAir {
 
 pub enum Aired {
     Line(OnAir),
+    Refused(Refusal),
+}
+
+// A line by its number, and what it sends.
+pub struct Found {
+    pub line: u32,
+    pub air: OnAir,
+}
+
+pub enum Sought {
+    Line(Found),
+    Nobody,
     Refused(Refusal),
 }
 
@@ -282,4 +302,36 @@ pub fn line(cell: Cell, line: u32, number: u32, direction: u32) -> Aired
         return Aired::Refused(Refusal::LineClosed);
     }
     Aired::Line(on_air(cell, l, number, direction))
+}
+
+// Who is on the air: the open line of timeslot `tn` that has this ARFCN in frame `number`, and what it sends, downlink (0) or uplink (1).
+pub fn who(cell: Cell, tn: u32, arfcn: u32, number: u32, direction: u32) -> Sought
+    ensures { λ r. ⌜ sought r ≡ whoOf cell tn arfcn number direction ⌝ }
+{
+    if (tn > 7) | ((arfcn > 1023) | ((number >= Frame::HYPERFRAME) | (direction > 1))) {
+        return Sought::Refused(Refusal::OutOfRange);
+    }
+    let n = first_on(cell, tn, arfcn, number);
+    if n >= 64 {
+        return Sought::Nobody;
+    }
+    Sought::Line(Found {
+        line: n,
+        air: on_air(cell, cell.lines[n as usize], number, direction),
+    })
+}
+
+// The timeslot and CCCH block in which a phone with this IMSI is paged, one digit to a byte, and the first frame at or after `number` in which the
+// block begins.
+pub fn page(cell: Cell, digits: &[u8], number: u32) -> Paged
+    ensures { λ r. ⌜ paged r ≡ pageOf cell (now (digits .entry)) number ⌝ }
+{
+    paging::page(
+        digits,
+        common_lines(cell),
+        has_combined(cell),
+        cell.ag,
+        cell.p,
+        number,
+    )
 }

@@ -12,9 +12,6 @@ position-requires c κs = search needs
 enum-known-p : tie.Need-enum-known-p
 enum-known-p c = search needs
 
-slice-aggregate-entry : tie.Need-slice-aggregate-entry
-slice-aggregate-entry c = search needs
-
 entry-requires : tie.Need-entry-requires
 entry-requires c κs = search needs
 
@@ -24,21 +21,10 @@ enum-told c = search needs
 returns : tie.Need-returns
 returns c =
     c .entry .ensures
-    ∙ ap (entryAt (c .before .before .before .before .before .before .before .args .cell .ca))
-    (ap positionSays (sym (c .before .before .before .p .given .1)) ∙ c .before .before .before .before .before .position .ensures)
+    ∙ ap (entryAt _) (ap positionSays (sym (c .before .before .p .given .1)) ∙ c .before .before .before .before .position .ensures)
 
 returns-2 : tie.Need-returns-2
-returns-2 c =
-    ap (entryAt (c .before .before .before .before .args .cell .ca)) (ap positionSays (sym (c .enum-told .given .1)) ∙ c .before .before .position .ensures)
+returns-2 c = ap (entryAt _) (ap positionSays (sym (c .enum-told .given .1)) ∙ c .before .before .position .ensures)
 
 pub arfcn-spec : {M : Type 1} → statement M
-arfcn-spec =
-    tie.close
-    (tie.spec
-    position-requires
-    enum-known-p
-    slice-aggregate-entry
-    entry-requires
-    enum-told
-    returns
-    returns-2)
+arfcn-spec = tie.close (tie.spec position-requires enum-known-p entry-requires enum-told returns returns-2)

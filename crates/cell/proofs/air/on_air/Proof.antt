@@ -9,6 +9,9 @@ use Rattle.cell.proofs.air.on_air.Tie as tie
 content-requires : tie.Need-content-requires
 content-requires c κs = search needs
 
+slice-aggregate-arfcn : tie.Need-slice-aggregate-arfcn
+slice-aggregate-arfcn c = search needs
+
 arfcn-requires : tie.Need-arfcn-requires
 arfcn-requires c κs = search needs
 
@@ -17,7 +20,7 @@ owner-requires c κs = search needs
 
 returns : tie.Need-returns
 unfolding slotOf
-returns c = let o = c .owner .ensures ∙ ap (ownerOf (ownerAt (c .before .before .before .args .l))) (c .before .before .content .ensures) in cc
+returns c = let o = c .owner .ensures ∙ ap (ownerOf (ownerAt (c .before .before .before .before .before .args .l))) (c .before .before .before .before .content .ensures) in cc
 
 pub on-air-spec : {M : Type 1} → statement M
-on-air-spec = tie.close (tie.spec content-requires arfcn-requires owner-requires returns)
+on-air-spec = tie.close (tie.spec content-requires slice-aggregate-arfcn arfcn-requires owner-requires returns)

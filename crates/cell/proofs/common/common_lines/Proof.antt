@@ -1,0 +1,83 @@
+-- `common::common_lines` meets its contract: what is counted below n. Assumes nothing.
+use Prim.Native.Nat.{ℕ, _+_, _-_, _≤_}
+use mathlib.Core.Path.{_≡_, refl, ap, _∙_}
+use mathlib.Core.Bool.{Bool, cond}
+use native.Mathlib.Omega.{arith}
+use borrow.Author.Needs.{needs}
+use Rattle.answers.specs.Search.{countBelow}
+use Rattle.answers.proofs.Count.{one-le, count-next}
+use Rattle.cell.specs.declared.Cell.{Cell}
+use Rattle.cell.specs.State.{lineAt}
+use Rattle.cell.specs.Calls.{isCommonLine}
+use Rattle.cell.proofs.common.common_lines.Statement.{statement}
+use Rattle.cell.proofs.common.common_lines.Tie as tie
+
+abbrev common : Cell → ℕ → Bool
+common cell n = isCommonLine (lineAt cell n)
+
+at-most-one : (k : ℕ) (b : Bool) → k ≡ cond b 1 0 → k ≤ 1
+at-most-one k b e = let o = one-le b in omega (arith, e, o)
+
+-- one more turn
+more : (test : ℕ → Bool) (n : ℕ) {count k : ℕ} → count ≡ countBelow test n → k ≡ cond (test n) 1 0 → count + k ≡ countBelow test (n + 1)
+more test n e q = let s = count-next test n in omega (arith, e, q, s)
+
+abbrev Inv-loop : tie.InvT-loop
+Inv-loop cell count₀ n₀ count n = (n ≤ 64) × (count ≤ n) × (count ≡ countBelow (common cell) n)
+
+abbrev μ-loop : tie.MeasureT-loop
+μ-loop cell count₀ n₀ count n = 64 - n
+
+loop-holds : tie.Need-loop-holds Inv-loop μ-loop
+unfolding countBelow
+loop-holds c = (search needs, search needs, refl)
+
+mul-is-common : tie.Need-mul-is-common Inv-loop μ-loop
+mul-is-common c = search needs
+
+element-copy-out-is-common : tie.Need-element-copy-out-is-common Inv-loop μ-loop
+element-copy-out-is-common c = search needs
+
+is-common-requires : tie.Need-is-common-requires Inv-loop μ-loop
+is-common-requires c κs = search needs
+
+one-if-requires : tie.Need-one-if-requires Inv-loop μ-loop
+one-if-requires c κs = search needs
+
+add-count : tie.Need-add-count Inv-loop μ-loop
+add-count c = let o : c .one-if .result ≤ 1 = at-most-one _ (c .before .is-common .result) (c .one-if .ensures) in search needs
+
+add-n : tie.Need-add-n Inv-loop μ-loop
+add-n c = search needs
+
+loop-less : tie.Need-loop-less Inv-loop μ-loop
+loop-less c = search needs
+
+loop-again : tie.Need-loop-again Inv-loop μ-loop
+loop-again c =
+    let x = c .before .before .before .before .args in
+    let l = c .before .before .before .loop in
+    let o = at-most-one _ (c .before .is-common .result) (c .one-if .ensures) in
+    (search needs, omega (arith, l .inv .1, o), more (common (x .t1)) (l .n) (l .inv .2) (c .one-if .ensures ∙ ap (λ (b : Bool). cond b 1 0) (c .before .is-common .ensures)))
+
+returns : tie.Need-returns Inv-loop μ-loop
+returns c =
+    let l = c .before .loop in
+    l .inv .2 ∙ ap (countBelow (common (c .before .before .args .t1))) (let e : l .n ≡ 64 = omega arith in e)
+
+pub common-lines-spec : {M : Type 1} → statement M
+common-lines-spec =
+    tie.close
+    (tie.spec
+    Inv-loop
+    μ-loop
+    loop-holds
+    mul-is-common
+    element-copy-out-is-common
+    is-common-requires
+    one-if-requires
+    add-count
+    add-n
+    loop-less
+    loop-again
+    returns)
