@@ -6,8 +6,12 @@ use Rattle.answers.specs.Outcome.{Refused, Outcome, refused, accepted}
 use Rattle.frame_map.specs.Numbers.{Numbers, noNumbers, standingNumbers}
 use Rattle.cell.specs.Calls.{Step}
 use Rattle.cell.specs.OnAir.{Slot}
+use Rattle.cell.specs.Who.{Match}
+use Rattle.paging.specs.declared.PagingBlock.{PagingBlock}
 use Rattle.tdma.specs.declared.cells.TdmaChanged.{TdmaChanged}
 use Rattle.tdma.specs.declared.cells.TdmaLine.{TdmaLine}
+use Rattle.tdma.specs.declared.cells.TdmaWho.{TdmaWho}
+use Rattle.tdma.specs.declared.cells.TdmaPage.{TdmaPage}
 
 -- the value that comes with 9 (the line in the way) and 15; 0 for a refusal that comes alone
 abbrev pub firstOf : List ℕ → ℕ
@@ -37,3 +41,20 @@ lineFields arfcn owner n =
 abbrev pub lineNumbers : Outcome Slot → TdmaLine
 lineNumbers (refused r) = lineFields 0 0 (noNumbers (r .number))
 lineNumbers (accepted s) = lineFields (s .arfcn) (s .owner) (standingNumbers (s .standing))
+
+-- the line, and its answer as `tdma_line` has it
+abbrev pub matchNumbers : Match → TdmaWho
+matchNumbers f = record { refusal = 0; found = 1; line = f .line; answer = lineNumbers (accepted (f .slot)) }
+
+-- nobody, or a refusal: every other number is 0
+abbrev pub nobody : ℕ → TdmaWho
+nobody refusal = record { refusal = refusal; found = 0; line = 0; answer = lineFields 0 0 (noNumbers 0) }
+
+abbrev pub whoNumbers : Outcome (Option Match) → TdmaWho
+whoNumbers (refused r) = nobody (r .number)
+whoNumbers (accepted none) = nobody 0
+whoNumbers (accepted (some f)) = matchNumbers f
+
+abbrev pub pageNumbers : Outcome PagingBlock → TdmaPage
+pageNumbers (refused r) = record { refusal = r .number; tn = 0; block = 0; frame = 0 }
+pageNumbers (accepted b) = record { refusal = 0; tn = b .tn; block = b .block; frame = b .frame }

@@ -5,11 +5,14 @@ use cell::Aired;
 use cell::Answer;
 use cell::Cell;
 use cell::Changed;
+use cell::Found;
 use cell::OnAir;
+use cell::Sought;
 use frame_map::Blocks;
 use frame_map::Burst;
 use frame_map::Content;
 use frame_map::Kind;
+use paging::Paged;
 ghost use mathlib.Core.Path.{_≡_};
 ghost use Rattle.answers.specs.Outcome.{accepted};
 ghost use Rattle.answers.specs.Refusals.{refusalOf};
@@ -18,7 +21,9 @@ ghost use Rattle.frame_map.specs.Map.{inBlocks};
 ghost use Rattle.frame_map.specs.Numbers.{noNumbers, standingNumbers};
 ghost use Rattle.cell.specs.Calls.{startOf, openOf, closeOf, seizeOf, releaseOf, changed};
 ghost use Rattle.cell.specs.OnAir.{lineOf, slotIn};
-ghost use Rattle.tdma.specs.Cells.{valueOf, changedNumbers, lineFields, lineNumbers};
+ghost use Rattle.cell.specs.Paging.{pageOf};
+ghost use Rattle.cell.specs.Who.{whoOf};
+ghost use Rattle.tdma.specs.Cells.{valueOf, changedNumbers, lineFields, lineNumbers, matchNumbers, nobody, whoNumbers, pageNumbers};
 
 // The refusal, for 9 the line in the way, and the cell after the call.
 #[repr(C)]
@@ -41,6 +46,24 @@ pub struct TdmaLine {
     pub place: u32,
     pub block2: u32,
     pub place2: u32,
+}
+
+// The line that was found (`found` 1) and its answer, or nobody (0).
+#[repr(C)]
+pub struct TdmaWho {
+    pub refusal: u32,
+    pub found: u32,
+    pub line: u32,
+    pub answer: TdmaLine,
+}
+
+// A phone's timeslot and CCCH block, and the first frame of that.
+#[repr(C)]
+pub struct TdmaPage {
+    pub refusal: u32,
+    pub tn: u32,
+    pub block: u32,
+    pub frame: u32,
 }
 
 // The value that comes with a refusal, 0 if it comes alone.
@@ -220,5 +243,62 @@ pub extern "C" fn tdma_line(cell: Cell, line: u32, frame: u32, direction: u32) -
     match cell::line(cell, line, frame, direction) {
         Aired::Line(a) => slot_numbers(a),
         Aired::Refused(e) => no_burst(refusal_number(e), 0, 0),
+    }
+}
+
+fn found_numbers(f: Found) -> TdmaWho
+    ensures { λ r. ⌜ r ≡ matchNumbers (record { line = f .line; slot = slotIn (f .air) }) ⌝ }
+{
+    let air = f.air;
+    TdmaWho {
+        refusal: 0,
+        found: 1,
+        line: f.line,
+        answer: slot_numbers(air),
+    }
+}
+
+// Nobody, or a refusal.
+fn no_line(refusal: u32) -> TdmaWho
+    ensures { λ r. ⌜ r ≡ nobody refusal ⌝ }
+{
+    TdmaWho {
+        refusal,
+        found: 0,
+        line: 0,
+        answer: no_burst(0, 0, 0),
+    }
+}
+
+// Who is on the air in a timeslot, on an ARFCN and in a frame, downlink (0) or uplink (1).
+#[no_mangle]
+pub extern "C" fn tdma_who(cell: Cell, tn: u32, arfcn: u32, frame: u32, direction: u32) -> TdmaWho
+    ensures { λ r. ⌜ r ≡ whoNumbers (whoOf cell tn arfcn frame direction) ⌝ }
+{
+    match cell::who(cell, tn, arfcn, frame, direction) {
+        Sought::Line(f) => found_numbers(f),
+        Sought::Nobody => no_line(0),
+        Sought::Refused(e) => no_line(refusal_number(e)),
+    }
+}
+
+// Where and when a phone with this IMSI is paged.
+#[no_mangle]
+pub extern "C" fn tdma_page(cell: Cell, digits: &[u8], frame: u32) -> TdmaPage
+    ensures { λ r. ⌜ r ≡ pageNumbers (pageOf cell (now (digits .entry)) frame) ⌝ }
+{
+    match cell::page(cell, digits, frame) {
+        Paged::Block(b) => TdmaPage {
+            refusal: 0,
+            tn: b.tn,
+            block: b.block,
+            frame: b.frame,
+        },
+        Paged::Refused(e) => TdmaPage {
+            refusal: refusal_number(e),
+            tn: 0,
+            block: 0,
+            frame: 0,
+        },
     }
 }
