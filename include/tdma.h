@@ -4,8 +4,9 @@
  * The library answers questions of the frame clock (which T1, T2 and T3 is frame FN), of frequency
  * hopping (which channel number does a line use in a frame) and of the frame map (which logical
  * channel stands in a frame); and it keeps the lines of a cell apart (which may be opened, who holds
- * which subchannel, what does a line send in a frame). "Document 01" below is this project's scope,
- * whose refusal numbers these are.
+ * which subchannel, what does a line send in a frame, which line is on a channel number, and when
+ * and where is a mobile station paged). "Document 01" below is this project's scope, whose refusal
+ * numbers these are.
  *
  * No input has to be checked first. Every function returns for every value of every parameter: the
  * answer's `refusal` is TDMA_ACCEPTED, or the lowest number of document 01 that applies, and then
@@ -30,7 +31,7 @@ extern "C" {
 /* Frames are numbered 0 to TDMA_HYPERFRAME - 1, and then from 0 again. */
 #define TDMA_HYPERFRAME 2715648u
 
-/* Why a call was refused. The functions below give 1 to 14. */
+/* Why a call was refused. The functions below give 1 to 14 and 16. */
 enum tdma_refusal {
     TDMA_ACCEPTED = 0,
     TDMA_CELL_ALLOCATION = 1,   /* CA isn't 1 to 64 ARFCNs of 0 to 1023, strictly ascending */
@@ -284,6 +285,54 @@ typedef struct {
  * Refusals, in this order: TDMA_OUT_OF_RANGE (line, frame, direction), TDMA_LINE_CLOSED.
  */
 tdma_line_answer tdma_line(tdma_cell cell, uint32_t line, uint32_t frame, uint32_t direction);
+
+typedef struct {
+    uint32_t refusal;
+    uint32_t found;          /* 1 where a line was found, 0 for nobody */
+    uint32_t line;           /* its number, 0 to 63; 0 for nobody */
+    tdma_line_answer answer; /* what tdma_line answers for it; every number 0 for nobody */
+} tdma_who_answer;
+
+/*
+ * Which open line of a timeslot is on an ARFCN in a frame, and what it sends (or, uplink, receives)
+ * there: there is one at most. Nobody is no refusal, and is answered exactly if there is none, also
+ * for an ARFCN that is not of the cell allocation. A line that is idle in the frame is found like
+ * any other. The cell stays as it is.
+ *   tn:        the timeslot, 0 to 7.
+ *   arfcn:     0 to 1023.
+ *   frame:     0 to TDMA_HYPERFRAME - 1.
+ *   direction: enum tdma_direction.
+ * Refusal: TDMA_OUT_OF_RANGE for any of the four.
+ */
+tdma_who_answer tdma_who(tdma_cell cell, uint32_t tn, uint32_t arfcn, uint32_t frame,
+                         uint32_t direction);
+
+typedef struct {
+    uint32_t refusal;
+    uint32_t tn;    /* 0, 2, 4 or 6: the timeslot of the common line */
+    uint32_t block; /* the CCCH block, BS_AG_BLKS_RES to 8, or to 2 with a combination 5 */
+    uint32_t frame; /* 0 to TDMA_HYPERFRAME - 1: the first of the block's four */
+} tdma_page_answer;
+
+/*
+ * When and where a mobile station is paged next: the timeslot and CCCH block of its paging group,
+ * and the first frame at or after `frame` where that block begins. It is past the turn to 0, and
+ * then below `frame`, if the hyperframe ends before. The cell stays as it is.
+ *   digits, digits_length: the IMSI, 3 to 15 digits, the first one first, one to a byte: 0 to 9, not
+ *                          characters. The last three decide. `digits` must be readable for
+ *                          `digits_length` bytes; where that is 0, pass any non-null pointer, and
+ *                          the call is refused.
+ *   frame:                 0 to TDMA_HYPERFRAME - 1.
+ * Refusals, in this order: TDMA_OUT_OF_RANGE (digits, frame), TDMA_NO_COMMON_LINE (no line of
+ * combination 4, 5 or 6 is open).
+ *
+ *     static const uint8_t imsi[] = {2, 6, 2, 0, 1, 1, 2, 3};
+ *     tdma_page_answer page = tdma_page(cell, imsi, 8, 0);
+ *     if (page.refusal == TDMA_ACCEPTED)
+ *         send_at(page.frame, page.tn);
+ */
+tdma_page_answer tdma_page(tdma_cell cell, const uint8_t *digits, size_t digits_length,
+                           uint32_t frame);
 
 #ifdef __cplusplus
 }

@@ -13,6 +13,8 @@ typedef char cell_size[sizeof(tdma_cell) == 4248 ? 1 : -1];
 typedef char cell_alignment[offsetof(struct cell_after_a_byte, cell) == 8 ? 1 : -1];
 typedef char changed_size[sizeof(tdma_changed) == 8 + 4248 ? 1 : -1];
 typedef char line_answer_size[sizeof(tdma_line_answer) == 40 ? 1 : -1];
+typedef char who_answer_size[sizeof(tdma_who_answer) == 12 + 40 ? 1 : -1];
+typedef char page_answer_size[sizeof(tdma_page_answer) == 16 ? 1 : -1];
 
 static int wrong = 0;
 
@@ -167,6 +169,49 @@ static void line_calls(void)
     expect("line, frame", past.refusal == TDMA_OUT_OF_RANGE && past.channel == 0);
 }
 
+static void who_calls(void)
+{
+    tdma_cell cell = tdma_seize(two_lines(), 5, 1, 77).cell;
+    tdma_line_answer shown = tdma_line(cell, 5, 3, TDMA_UPLINK);
+    tdma_who_answer tch = tdma_who(cell, 1, 30, 3, TDMA_UPLINK);
+    tdma_who_answer ccch = tdma_who(cell, 0, 10, 26, TDMA_DOWNLINK);
+    tdma_who_answer nobody = tdma_who(cell, 0, 30, 3, TDMA_UPLINK);
+    tdma_who_answer past = tdma_who(cell, 8, 30, 3, TDMA_UPLINK);
+    tdma_who_answer arfcn = tdma_who(cell, 1, 1024, 3, TDMA_UPLINK);
+
+    expect("who", tch.refusal == TDMA_ACCEPTED && tch.found == 1 && tch.line == 5 &&
+                      tch.answer.owner == 77 && memcmp(&tch.answer, &shown, sizeof shown) == 0);
+    expect("who, CCCH", ccch.found == 1 && ccch.line == 0 && ccch.answer.channel == TDMA_CCCH &&
+                            ccch.answer.arfcn == 10 && ccch.answer.block == 4);
+    expect("who, nobody", nobody.refusal == TDMA_ACCEPTED && nobody.found == 0 &&
+                              nobody.line == 0 && nobody.answer.arfcn == 0 &&
+                              nobody.answer.channel == TDMA_IDLE);
+    expect("who, timeslot", past.refusal == TDMA_OUT_OF_RANGE && past.found == 0);
+    expect("who, ARFCN", arfcn.refusal == TDMA_OUT_OF_RANGE && arfcn.found == 0);
+}
+
+/* The drill sheet's row on paging, and its refusals. */
+static void page_calls(void)
+{
+    static const uint8_t imsi[15] = {2, 6, 2, 0, 1, 0, 0, 0, 0, 0, 0, 0, 1, 2, 3};
+    static const uint8_t text[3] = {'1', '2', '3'};
+    tdma_cell cell = two_lines();
+    tdma_cell without = tdma_close(cell, 0).cell;
+    tdma_page_answer page = tdma_page(cell, imsi, 15, 0);
+    tdma_page_answer turned = tdma_page(cell, imsi + 12, 3, TDMA_HYPERFRAME - 1);
+    tdma_page_answer none = tdma_page(without, imsi, 15, 0);
+    tdma_page_answer both = tdma_page(without, imsi, 0, 0);
+
+    expect("page", page.refusal == TDMA_ACCEPTED && page.tn == 0 && page.block == 4 &&
+                       page.frame == 26);
+    expect("page, turned", turned.refusal == TDMA_ACCEPTED && turned.frame == 26);
+    expect("page, two digits", tdma_page(cell, imsi, 2, 0).refusal == TDMA_OUT_OF_RANGE);
+    expect("page, characters", tdma_page(cell, text, 3, 0).refusal == TDMA_OUT_OF_RANGE);
+    expect("page, frame", tdma_page(cell, imsi, 15, TDMA_HYPERFRAME).refusal == TDMA_OUT_OF_RANGE);
+    expect("page, no common line", none.refusal == TDMA_NO_COMMON_LINE && none.frame == 0);
+    expect("page, both", both.refusal == TDMA_OUT_OF_RANGE && both.frame == 0);
+}
+
 int main(void)
 {
     clock_calls();
@@ -176,5 +221,7 @@ int main(void)
     open_and_close_calls();
     seize_and_release_calls();
     line_calls();
+    who_calls();
+    page_calls();
     return wrong;
 }

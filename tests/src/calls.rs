@@ -2,7 +2,8 @@
 //! implementation's, on which each call is made alike.
 
 use crate::cell::{Causes, Cell, Plan, Refused, Values};
-use crate::library::{self, Changed, LineAnswer};
+use crate::library::{self, Changed, LineAnswer, PageAnswer, WhoAnswer};
+use crate::paging::Imsi;
 
 /// A call on a cell, with what it is given beside the cell, in the header's order.
 #[derive(Clone, Copy, Debug)]
@@ -15,6 +16,10 @@ pub enum Call {
     Release(u32, u32, u32),
     /// Line, frame, direction.
     Line(u32, u32, u32),
+    /// Timeslot, ARFCN, frame, direction.
+    Who(u32, u32, u32, u32),
+    /// IMSI, frame.
+    Page(Imsi, u32),
 }
 
 impl Call {
@@ -25,7 +30,14 @@ impl Call {
             Call::Seize(..) => "seize",
             Call::Release(..) => "release",
             Call::Line(..) => "line",
+            Call::Who(..) => "who",
+            Call::Page(..) => "page",
         }
+    }
+
+    /// Whether the call may change the cell.
+    pub fn changes(&self) -> bool {
+        !matches!(self, Call::Line(..) | Call::Who(..) | Call::Page(..))
     }
 
     /// The refusals of this call on a cell, with whether the condition of each holds.
@@ -36,18 +48,21 @@ impl Call {
             Call::Seize(line, s, owner) => cell.seize_causes(line, s, owner),
             Call::Release(line, s, owner) => cell.release_causes(line, s, owner),
             Call::Line(line, frame, direction) => cell.line_causes(line, frame, direction),
+            Call::Who(tn, arfcn, frame, direction) => cell.who_causes(tn, arfcn, frame, direction),
+            Call::Page(ref imsi, frame) => cell.page_causes(imsi.digits(), frame),
         }
     }
 }
 
-/// A call that changes the cell, made on the library's. Line, which changes nothing, is none.
+/// A call that changes the cell, made on the library's. Line, who and page, which change nothing,
+/// give none.
 pub fn change(cell: &library::Cell, call: &Call) -> Option<Changed> {
     match *call {
         Call::Open(line, values) => Some(library::open(cell, line, &values)),
         Call::Close(line) => Some(library::close(cell, line)),
         Call::Seize(line, s, owner) => Some(library::seize(cell, line, s, owner)),
         Call::Release(line, s, owner) => Some(library::release(cell, line, s, owner)),
-        Call::Line(..) => None,
+        Call::Line(..) | Call::Who(..) | Call::Page(..) => None,
     }
 }
 
@@ -58,7 +73,7 @@ pub fn second_change(cell: &mut Cell, call: &Call) -> Option<Result<(), Refused>
         Call::Close(line) => Some(cell.close(line).map_err(Refused::from)),
         Call::Seize(line, s, owner) => Some(cell.seize(line, s, owner).map_err(Refused::from)),
         Call::Release(line, s, owner) => Some(cell.release(line, s, owner).map_err(Refused::from)),
-        Call::Line(..) => None,
+        Call::Line(..) | Call::Who(..) | Call::Page(..) => None,
     }
 }
 
@@ -99,9 +114,15 @@ impl Both {
 
     /// Makes a call on both and compares the answers. Gives the refusal, 0 for accepted.
     pub fn make(&mut self, call: &Call) -> u32 {
-        if let Call::Line(line, frame, direction) = *call {
-            return self.line(line, frame, direction).refusal;
+        match *call {
+            Call::Line(line, frame, direction) => self.line(line, frame, direction).refusal,
+            Call::Who(tn, arfcn, frame, direction) => self.who(tn, arfcn, frame, direction).refusal,
+            Call::Page(ref imsi, frame) => self.page(imsi.digits(), frame).refusal,
+            _ => self.change(call),
         }
+    }
+
+    fn change(&mut self, call: &Call) -> u32 {
         let changed = change(&self.library, call).unwrap();
         let second = second_change(&mut self.second, call).unwrap();
         let refused = second.err().unwrap_or(Refused::from(0));
@@ -123,6 +144,30 @@ impl Both {
         assert_eq!(
             answer, second,
             "line {line}, FN {frame}, direction {direction} of {:?}",
+            self.second
+        );
+        answer
+    }
+
+    /// Asks both who is on an ARFCN and compares. Gives the answer.
+    pub fn who(&self, tn: u32, arfcn: u32, frame: u32, direction: u32) -> WhoAnswer {
+        let answer = library::who(&self.library, tn, arfcn, frame, direction);
+        let second = WhoAnswer::from(self.second.who(tn, arfcn, frame, direction));
+        assert_eq!(
+            answer, second,
+            "TN {tn}, ARFCN {arfcn}, FN {frame}, direction {direction} of {:?}",
+            self.second
+        );
+        answer
+    }
+
+    /// Asks both where an IMSI is paged and compares. Gives the answer.
+    pub fn page(&self, digits: &[u8], frame: u32) -> PageAnswer {
+        let answer = library::page(&self.library, digits, frame);
+        let second = PageAnswer::from(self.second.page(digits, frame));
+        assert_eq!(
+            answer, second,
+            "IMSI {digits:?}, FN {frame} of {:?}",
             self.second
         );
         answer

@@ -88,6 +88,13 @@ pub struct OnAir {
     pub owner: u32,
 }
 
+/// The line that has an ARFCN in a frame, and what it has there.
+#[derive(Clone, Copy, Debug)]
+pub struct Found {
+    pub line: u32,
+    pub on_air: OnAir,
+}
+
 /// Numbers of refusals, and whether the condition of each holds.
 pub type Causes = Vec<(u32, bool)>;
 
@@ -305,5 +312,24 @@ impl Cell {
             burst,
             owner: if own { line.owner(burst.subchannel) } else { 0 },
         })
+    }
+
+    pub fn who_causes(&self, tn: u32, arfcn: u32, frame: u32, direction: u32) -> Causes {
+        let in_range = tn <= 7 && arfcn <= 1023 && frame < HYPERFRAME && direction <= 1;
+        vec![(OUT_OF_RANGE, !in_range)]
+    }
+
+    /// All lines of the timeslot are tried, and one at most may have the ARFCN.
+    pub fn who(&self, tn: u32, arfcn: u32, frame: u32, direction: u32) -> Answer<Option<Found>> {
+        refuse(&self.who_causes(tn, arfcn, frame, direction))?;
+        let mut found = None;
+        for (&line, _) in self.lines.iter().filter(|(_, line)| line.tn == tn) {
+            let on_air = self.line(line, frame, direction)?;
+            if on_air.arfcn == arfcn {
+                assert!(found.is_none(), "two lines on ARFCN {arfcn}, FN {frame}");
+                found = Some(Found { line, on_air });
+            }
+        }
+        Ok(found)
     }
 }

@@ -7,6 +7,7 @@ use crate::cell::{is_common_combination, subchannels, Cell, OpenLine, Plan, Valu
 use crate::clock::HYPERFRAME;
 use crate::frame_map::COMBINATIONS;
 use crate::hopping::positions;
+use crate::paging::Imsi;
 use crate::random::Random;
 
 /// A start with nothing wrong in it, and a cell allocation of `length` entries.
@@ -207,15 +208,40 @@ fn aimed_line(random: &mut Random, cell: &Cell) -> Option<Call> {
     Some(Call::Line(line, frame, direction))
 }
 
+/// An open line's timeslot, and the ARFCN that it has in the frame.
+fn aimed_who(random: &mut Random, cell: &Cell) -> Option<Call> {
+    let (&line, open) = pick(random, cell.lines.iter())?;
+    let (frame, direction) = (random.frame(), random.below(2));
+    let on_air = cell.line(line, frame, direction).unwrap();
+    Some(Call::Who(open.tn, on_air.arfcn, frame, direction))
+}
+
+/// An IMSI of 3 to 15 digits.
+pub fn imsi(random: &mut Random) -> Imsi {
+    let length = random.one_of(&[3, 4, 14, 15, 15, 15]);
+    let digits = (0..length).map(|_| random.below(10) as u8);
+    Imsi::new(&digits.collect::<Vec<u8>>())
+}
+
+/// Mostly where there is a common line.
+fn aimed_page(random: &mut Random, cell: &Cell) -> Option<Call> {
+    let mut lines = cell.lines.values();
+    let common = lines.any(|line| is_common_combination(line.combination));
+    let (imsi, frame) = (imsi(random), random.frame());
+    (common || random.once_in(8)).then_some(Call::Page(imsi, frame))
+}
+
 /// There is a closed line or an open one, so that some kind of call can always be aimed.
 fn aimed(random: &mut Random, cell: &Cell) -> Call {
     loop {
-        let call = match random.below(20) {
+        let call = match random.below(24) {
             0..=6 => aimed_open(random, cell),
             7..=8 => aimed_close(random, cell),
             9..=13 => aimed_seize(random, cell),
             14..=16 => aimed_release(random, cell),
-            _ => aimed_line(random, cell),
+            17..=19 => aimed_line(random, cell),
+            20..=21 => aimed_who(random, cell),
+            _ => aimed_page(random, cell),
         };
         if let Some(call) = call {
             return call;
@@ -257,6 +283,36 @@ fn spoil_line(random: &mut Random, line: &mut u32, frame: &mut u32, direction: &
     }
 }
 
+fn spoil_who(
+    random: &mut Random,
+    tn: &mut u32,
+    arfcn: &mut u32,
+    frame: &mut u32,
+    direction: &mut u32,
+) {
+    match random.below(4) {
+        0 => *tn = odd_number(random, 7),
+        1 => *arfcn = odd_number(random, 1023),
+        2 => *frame = odd_number(random, HYPERFRAME - 1),
+        _ => *direction = odd_number(random, 1),
+    }
+}
+
+/// Too few digits or too many, one that is none, or an odd frame.
+fn spoil_page(random: &mut Random, imsi: &mut Imsi, frame: &mut u32) {
+    let mut digits = imsi.digits().to_vec();
+    match random.below(4) {
+        0 => digits.truncate(random.below(4) as usize),
+        1 => digits.resize(random.one_of(&[15, 16]), 9),
+        2 if !digits.is_empty() => {
+            let at = random.below(digits.len() as u32) as usize;
+            digits[at] = random.one_of(&[9, 10, 16, 48, 128, 255]);
+        }
+        _ => *frame = odd_number(random, HYPERFRAME - 1),
+    }
+    *imsi = Imsi::new(&digits);
+}
+
 /// An aimed call with one value or two spoilt.
 fn odd(random: &mut Random, cell: &Cell) -> Call {
     let mut call = aimed(random, cell);
@@ -268,6 +324,10 @@ fn odd(random: &mut Random, cell: &Cell) -> Call {
                 spoil_subchannel(random, line, s, owner)
             }
             Call::Line(line, frame, direction) => spoil_line(random, line, frame, direction),
+            Call::Who(tn, arfcn, frame, direction) => {
+                spoil_who(random, tn, arfcn, frame, direction)
+            }
+            Call::Page(imsi, frame) => spoil_page(random, imsi, frame),
         }
     }
     call
@@ -292,12 +352,15 @@ fn blind_values(random: &mut Random, cell: &Cell) -> Values {
 fn blind(random: &mut Random, cell: &Cell) -> Call {
     let (line, s, owner) = (random.below(64), random.below(8), owner(random));
     let (frame, direction) = (random.frame(), random.below(2));
-    match random.below(8) {
+    let (tn, arfcn) = (random.below(8), random.below(1024));
+    match random.below(10) {
         0..=2 => Call::Open(line, blind_values(random, cell)),
         3..=4 => Call::Close(line),
         5 => Call::Seize(line, s, owner),
         6 => Call::Release(line, s, owner),
-        _ => Call::Line(line, frame, direction),
+        7 => Call::Line(line, frame, direction),
+        8 => Call::Who(tn, arfcn, frame, direction),
+        _ => Call::Page(imsi(random), frame),
     }
 }
 

@@ -1,10 +1,10 @@
 //! A second implementation of document 01, to compare the library with.
 //!
-//! `clock`, `hopping`, `frame_map` and `cell` are written from document 01 alone and by other means
-//! than the library: counters that step from frame to frame, lists of positions, tables of frames
-//! that are painted block by block, a book of the open lines. `library` is the library under test
-//! as C sees it. `random` draws the inputs, and `draw` whole calls on a cell, which `calls` makes
-//! on both.
+//! `clock`, `hopping`, `frame_map`, `cell` and `paging` are written from document 01 alone and by
+//! other means than the library: counters that step from frame to frame, lists of positions, tables
+//! of frames that are painted block by block, a book of the open lines, a walk to the frame where a
+//! paging block begins. `library` is the library under test as C sees it. `random` draws the inputs,
+//! and `draw` whole calls on a cell, which `calls` makes on both.
 
 pub mod calls;
 pub mod cell;
@@ -13,6 +13,7 @@ pub mod draw;
 pub mod frame_map;
 pub mod hopping;
 pub mod library;
+pub mod paging;
 pub mod random;
 
 /// An answer, or the number of the refusal.
@@ -33,6 +34,7 @@ pub const SUBCHANNEL_HELD: u32 = 11;
 pub const NOT_HOLDER: u32 = 12;
 pub const LINE_HELD: u32 = 13;
 pub const MALFORMED: u32 = 14;
+pub const NO_COMMON_LINE: u32 = 16;
 
 /// Refuses with the lowest number whose condition holds, in whatever order they are listed.
 pub fn refuse(causes: &[(u32, bool)]) -> Answer<()> {

@@ -1,9 +1,10 @@
 //! The library under test as include/tdma.h declares it, and what an answer of the second
 //! implementation is in its numbers.
 
-use crate::cell::{OnAir, Values};
+use crate::cell::{Found, OnAir, Values};
 use crate::clock::Counters;
 use crate::frame_map::Burst;
+use crate::paging::Paged;
 use crate::Answer;
 
 macro_rules! answers {
@@ -23,6 +24,16 @@ answers! {
     LineAnswer: u32 {
         refusal, arfcn, owner, channel, subchannel, blocks, block, place, second_block, second_place
     }
+    PageAnswer: u32 { refusal, tn, block, frame }
+}
+
+#[repr(C)]
+#[derive(Clone, Copy, Debug, Default, PartialEq, Eq)]
+pub struct WhoAnswer {
+    pub refusal: u32,
+    pub found: u32,
+    pub line: u32,
+    pub answer: LineAnswer,
 }
 
 /// The cell as C has it: storage that only the library looks into.
@@ -70,6 +81,8 @@ extern "C" {
     fn tdma_seize(cell: Cell, line: u32, subchannel: u32, owner: u32) -> Changed;
     fn tdma_release(cell: Cell, line: u32, subchannel: u32, owner: u32) -> Changed;
     fn tdma_line(cell: Cell, line: u32, frame: u32, direction: u32) -> LineAnswer;
+    fn tdma_who(cell: Cell, tn: u32, arfcn: u32, frame: u32, direction: u32) -> WhoAnswer;
+    fn tdma_page(cell: Cell, digits: *const u8, digits_length: usize, frame: u32) -> PageAnswer;
 }
 
 // The library takes every value of a number and of a cell, so these calls are safe; a slice is
@@ -139,6 +152,16 @@ pub fn release(cell: &Cell, line: u32, s: u32, owner: u32) -> Changed {
 #[inline]
 pub fn line(cell: &Cell, line: u32, frame: u32, direction: u32) -> LineAnswer {
     unsafe { tdma_line(*cell, line, frame, direction) }
+}
+
+#[inline]
+pub fn who(cell: &Cell, tn: u32, arfcn: u32, frame: u32, direction: u32) -> WhoAnswer {
+    unsafe { tdma_who(*cell, tn, arfcn, frame, direction) }
+}
+
+#[inline]
+pub fn page(cell: &Cell, digits: &[u8], frame: u32) -> PageAnswer {
+    unsafe { tdma_page(*cell, digits.as_ptr(), digits.len(), frame) }
 }
 
 impl From<Answer<Counters>> for SplitAnswer {
@@ -238,6 +261,41 @@ impl From<Answer<OnAir>> for LineAnswer {
             place: map.place.into(),
             second_block: map.second_block.into(),
             second_place: map.second_place.into(),
+        }
+    }
+}
+
+impl From<Answer<Option<Found>>> for WhoAnswer {
+    fn from(answer: Answer<Option<Found>>) -> Self {
+        match answer {
+            Err(refusal) => WhoAnswer {
+                refusal,
+                ..Default::default()
+            },
+            Ok(None) => WhoAnswer::default(),
+            Ok(Some(Found { line, on_air })) => WhoAnswer {
+                refusal: 0,
+                found: 1,
+                line,
+                answer: Ok(on_air).into(),
+            },
+        }
+    }
+}
+
+impl From<Answer<Paged>> for PageAnswer {
+    fn from(answer: Answer<Paged>) -> Self {
+        match answer {
+            Err(refusal) => PageAnswer {
+                refusal,
+                ..Default::default()
+            },
+            Ok(Paged { tn, block, frame }) => PageAnswer {
+                refusal: 0,
+                tn,
+                block,
+                frame,
+            },
         }
     }
 }

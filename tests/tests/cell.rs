@@ -10,21 +10,24 @@ use tdma_tests::random::Random;
 const CALLS: u32 = 300_000;
 
 /// What each call may answer: 0 for accepted, and its refusals.
-const ANSWERS: [(&str, &[u32]); 6] = [
+const ANSWERS: [(&str, &[u32]); 8] = [
     ("start", &[0, 1, 2]),
     ("open", &[0, 3, 4, 5, 6, 8, 9]),
     ("close", &[0, 3, 7, 8, 13]),
     ("seize", &[0, 3, 7, 10, 11]),
     ("release", &[0, 3, 7, 10, 12]),
     ("line", &[0, 3, 7]),
+    ("who", &[0, 3]),
+    ("page", &[0, 3, 16]),
 ];
 
 /// Refusals whose conditions can hold together, where it matters which is told.
-const TOGETHER: [(&str, &[u32]); 4] = [
+const TOGETHER: [(&str, &[u32]); 5] = [
     ("open", &[3, 4, 5, 6, 8, 9]),
     ("seize", &[3, 11]),
     ("release", &[3, 12]),
     ("line", &[3, 7]),
+    ("page", &[3, 16]),
 ];
 
 /// What the lists have met.

@@ -3,11 +3,14 @@
 
 use tdma_tests::calls::{change, Both, Call};
 use tdma_tests::cell::{Plan, Six, Values};
+use tdma_tests::clock::HYPERFRAME;
+use tdma_tests::draw;
 use tdma_tests::frame_map::Channel;
-use tdma_tests::library::{self, LineAnswer};
+use tdma_tests::library::{self, LineAnswer, PageAnswer, WhoAnswer};
+use tdma_tests::paging::Imsi;
 use tdma_tests::random::Random;
 use tdma_tests::{CELL_ALLOCATION, CELL_PARAMETER, COMMON_CHANNEL, LINE_CLOSED, LINE_HELD};
-use tdma_tests::{MAIO, MOBILE_ALLOCATION};
+use tdma_tests::{MAIO, MOBILE_ALLOCATION, NO_COMMON_LINE, OUT_OF_RANGE};
 
 fn plan() -> Plan {
     Plan::new([10, 20, 30, 40], 10, 0, 1, 5)
@@ -22,11 +25,13 @@ const VALUES: Values = Values {
     tsc: 7,
 };
 
-/// Cells with lines 0 and 1 of combination 1 open, and subchannel 0 of line 1 held by 5.
-fn two_lines() -> Both {
+/// Cells with lines 0 and 1 of combination 1 open, subchannel 0 of line 1 held by 5, and a line of
+/// combination 4.
+fn three_lines() -> Both {
     let mut both = Both::started(&plan());
     let open = |line, tn| Call::Open(line, Values { tn, ..VALUES });
-    for call in [open(0, 2), open(1, 3), Call::Seize(1, 0, 5)] {
+    let common = Call::Open(63, (0, 1, 0, 0, 4, 0).into());
+    for call in [open(0, 2), open(1, 3), Call::Seize(1, 0, 5), common] {
         assert_eq!(both.make(&call), 0, "{call:?}");
     }
     both
@@ -34,12 +39,14 @@ fn two_lines() -> Both {
 
 /// A call that is accepted after that, with the refusal for each value at its largest, in the order
 /// in which `largest` takes them.
-const ACCEPTED: [(Call, &[u32]); 5] = [
+const ACCEPTED: [(Call, &[u32]); 7] = [
     (Call::Open(2, VALUES), &[3, 3, 3, 5, 3, 3, 4]),
     (Call::Close(0), &[3]),
     (Call::Seize(0, 0, 1), &[3, 10, 3]),
     (Call::Release(1, 0, 5), &[3, 10, 3]),
     (Call::Line(0, 13, 1), &[3, 3, 3]),
+    (Call::Who(2, 20, 13, 1), &[3, 3, 3, 3]),
+    (Call::Page(Imsi::new(&[0, 0, 1, 2, 3]), 13), &[3, 3]),
 ];
 
 /// The call with value i at its largest where bit i is one.
@@ -64,6 +71,11 @@ fn largest(call: &Call, bits: usize) -> Call {
         Call::Line(line, frame, direction) => {
             Call::Line(at(0, line), at(1, frame), at(2, direction))
         }
+        Call::Who(tn, arfcn, frame, direction) => {
+            Call::Who(at(0, tn), at(1, arfcn), at(2, frame), at(3, direction))
+        }
+        Call::Page(_, frame) if is(0) => Call::Page(Imsi::new(&[255; 15]), at(1, frame)),
+        Call::Page(imsi, frame) => Call::Page(imsi, at(1, frame)),
     }
 }
 
@@ -78,7 +90,7 @@ fn lowest(refusals: &[u32], bits: usize) -> u32 {
 
 #[test]
 fn every_value_at_its_largest() {
-    let (lines, empty) = (two_lines(), Both::started(&plan()));
+    let (lines, empty) = (three_lines(), Both::started(&plan()));
     for (call, refusals) in ACCEPTED {
         for bits in 0..1 << refusals.len() {
             let odd = largest(&call, bits);
@@ -175,47 +187,109 @@ fn a_refused_start_hands_back_the_cell_with_arfcn_0() {
     }
 }
 
-/// A call on storage returns; where it is refused, it hands the storage back as it came.
-fn returns(cell: &library::Cell, call: &Call) {
-    if let Call::Line(line, frame, direction) = *call {
-        let answer = library::line(cell, line, frame, direction);
-        let refused = LineAnswer {
-            refusal: answer.refusal,
-            ..Default::default()
-        };
-        assert!(answer.refusal == 0 || answer == refused, "{answer:?}");
-        return;
-    }
-    let changed = change(cell, call).unwrap();
-    assert!(changed.refusal <= LINE_HELD, "{call:?}");
-    assert!(changed.refusal == 0 || changed.cell == *cell, "{call:?}");
+fn line_returns(cell: &library::Cell, line: u32, frame: u32, direction: u32) {
+    let answer = library::line(cell, line, frame, direction);
+    let refused = LineAnswer {
+        refusal: answer.refusal,
+        ..Default::default()
+    };
+    assert!(answer.refusal == 0 || answer == refused, "{answer:?}");
 }
 
-/// Storage filled with zeros, with ones, with random numbers, or with small ones.
-fn storage(random: &mut Random, fill: u32) -> library::Cell {
-    let mask = match fill % 4 {
-        0 => 0,
-        1 => {
-            return library::Cell {
-                opaque: [u64::MAX; 531],
-            }
-        }
-        2 => u64::MAX,
-        _ => 0x0000_0007_0000_0007,
+/// Who and page are refused with 3 exactly if what they are given is out of range, whatever the
+/// storage.
+fn who_returns(cell: &library::Cell, call: (u32, u32, u32, u32), odd: bool) {
+    let (tn, arfcn, frame, direction) = call;
+    let refused = WhoAnswer {
+        refusal: OUT_OF_RANGE,
+        ..Default::default()
     };
-    let opaque = std::array::from_fn(|_| random.word() & mask);
-    library::Cell { opaque }
+    let answer = library::who(cell, tn, arfcn, frame, direction);
+    assert_eq!(answer == refused, odd, "{answer:?}");
+}
+
+fn page_returns(cell: &library::Cell, imsi: &Imsi, frame: u32, odd: bool) {
+    let refused = PageAnswer {
+        refusal: OUT_OF_RANGE,
+        ..Default::default()
+    };
+    let answer = library::page(cell, imsi.digits(), frame);
+    assert_eq!(answer == refused, odd, "{answer:?}");
+}
+
+/// A call on storage returns; where it is refused, it hands the storage back as it came.
+fn returns(cell: &library::Cell, call: &Call, odd: bool) {
+    match *call {
+        Call::Line(line, frame, direction) => line_returns(cell, line, frame, direction),
+        Call::Who(tn, arfcn, frame, direction) => {
+            who_returns(cell, (tn, arfcn, frame, direction), odd)
+        }
+        Call::Page(ref imsi, frame) => page_returns(cell, imsi, frame, odd),
+        _ => {
+            let changed = change(cell, call).unwrap();
+            assert!(changed.refusal <= LINE_HELD, "{call:?}");
+            assert!(changed.refusal == 0 || changed.cell == *cell, "{call:?}");
+        }
+    }
+}
+
+/// Storage filled with zeros, with ones, with random numbers or with small ones; or by the calls, but
+/// with one word changed then.
+fn storage(random: &mut Random, filled: &library::Cell, fill: u32) -> library::Cell {
+    let (mut cell, any) = (*filled, random.word());
+    match fill % 5 {
+        0 => cell.opaque = [0; 531],
+        1 => cell.opaque = [u64::MAX; 531],
+        2 => cell.opaque = std::array::from_fn(|_| random.word()),
+        3 => cell.opaque = std::array::from_fn(|_| random.word() & 0x0000_0007_0000_0007),
+        _ => {
+            let word = random.one_of(&[0, 1 << 32, u64::MAX, any]);
+            cell.opaque[(fill / 5) as usize % 531] = word;
+        }
+    }
+    cell
+}
+
+/// Who and page at values in their range, drawn at random.
+fn questions(random: &mut Random) -> [Call; 2] {
+    let (tn, arfcn) = (random.below(8), random.one_of(&[0, 7, 10, 20, 1023]));
+    let who = Call::Who(tn, arfcn, random.frame(), random.below(2));
+    [who, Call::Page(draw::imsi(random), random.frame())]
 }
 
 #[test]
 fn storage_that_no_call_has_filled() {
-    let mut random = Random(9);
-    for fill in 0..400 {
-        let cell = storage(&mut random, fill);
+    let (mut random, filled) = (Random(9), three_lines().library);
+    for fill in 0..5 * 531 {
+        let cell = storage(&mut random, &filled, fill);
         for (call, refusals) in ACCEPTED {
             for bits in 0..1 << refusals.len() {
-                returns(&cell, &largest(&call, bits));
+                returns(&cell, &largest(&call, bits), bits != 0);
             }
         }
+        for call in (0..20).flat_map(|_| questions(&mut random)) {
+            returns(&cell, &call, false);
+        }
     }
+}
+
+/// No common line is open, so page is refused; but 3 comes first.
+#[test]
+fn page_on_the_cell_of_a_refused_start() {
+    let (refusal, mut both) = Both::start(&Plan::new([20, 10], 10, 7, 7, 5));
+    assert_eq!(refusal, CELL_ALLOCATION);
+    let imsi = Imsi::new(&[9, 9, 9]);
+    let calls = [
+        (Call::Page(imsi, 0), NO_COMMON_LINE),
+        (Call::Page(Imsi::new(&[9, 9]), 0), OUT_OF_RANGE),
+        (Call::Page(imsi, HYPERFRAME), OUT_OF_RANGE),
+        (Call::Open(0, (0, 1, 0, 0, 4, 0).into()), 0),
+        (Call::Page(imsi, 0), 0),
+    ];
+    for (call, refusal) in calls {
+        assert_eq!(both.make(&call), refusal, "{call:?}");
+    }
+    // BS_AG_BLKS_RES 0 and BS_PA_MFRMS 2: 999 leaves 9 by 18, which is multiframe 1, block 0.
+    let page = both.page(imsi.digits(), 0);
+    assert_eq!((page.tn, page.block, page.frame), (0, 0, 51 + 6));
 }

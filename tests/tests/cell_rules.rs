@@ -5,7 +5,8 @@ use tdma_tests::calls::{change, Both, Call};
 use tdma_tests::cell::{Plan, Six};
 use tdma_tests::clock::HYPERFRAME;
 use tdma_tests::frame_map::Channel::{self, *};
-use tdma_tests::library::LineAnswer;
+use tdma_tests::library::{LineAnswer, PageAnswer, WhoAnswer};
+use tdma_tests::paging::Imsi;
 
 /// CA is 10, 20, 30, 40 and C0 is 20, so that mask 2 is C0 alone.
 fn cell(bcc: u32, ag: u32) -> Both {
@@ -298,4 +299,129 @@ fn line() {
     assert_eq!(both.line(1, 25, 0), burst(10, Sacch, 0, 65_535, 0, 0));
     assert_eq!(both.line(1, 12, 0), idle(30));
     assert_eq!(both.line(1, 5, 0), tch);
+}
+
+#[test]
+fn who() {
+    let mut both = cell(0, 0);
+    let calls = [
+        (open(63, (0, 2, 0, 0, 5, 0)), 0),
+        (open(7, (1, 7, 0, 2, 1, 0)), 0),
+        (open(3, (1, 7, 0, 0, 7, 0)), 0),
+        (open(9, (2, 7, 0, 2, 2, 0)), 0),
+        (seize(63, 1, 9), 0),
+    ];
+    script(&mut both, &calls);
+    let found = |line, answer| WhoAnswer {
+        refusal: 0,
+        found: 1,
+        line,
+        answer,
+    };
+    let nobody = WhoAnswer::default();
+    let sacch = burst(20, Sacch, 1, 9, 0, 3);
+    let sdcch = burst(10, Sdcch, 3, 0, 0, 0);
+    assert_eq!(both.who(0, 20, 64, 1), found(63, sacch));
+    assert_eq!(both.who(0, 20, 50, 0), found(63, idle(20)));
+    assert_eq!(both.who(0, 10, 64, 1), nobody);
+    // FN 12 leaves 0 by three ARFCNs, so that MAIO 0, 1 and 2 are 10, 20 and 30.
+    assert_eq!(both.who(1, 30, 12, 0), found(7, idle(30)));
+    assert_eq!(both.who(1, 10, 12, 0), found(3, sdcch));
+    assert_eq!(both.who(1, 20, 12, 0), nobody);
+    assert_eq!(both.who(1, 40, 12, 0), nobody);
+    assert_eq!(both.who(3, 30, 12, 0), nobody);
+    assert_eq!(both.who(1, 1023, 12, 0), nobody);
+    script(&mut both, &[(close(7), 0)]);
+    assert_eq!(both.who(1, 30, 12, 0), nobody);
+    assert_eq!(both.who(2, 30, 12, 0).line, 9);
+}
+
+#[test]
+fn ranges_of_who_and_page() {
+    let imsi = Imsi::new(&[9; 15]);
+    let calls = [
+        (Call::Who(8, 20, 0, 0), 3),
+        (Call::Who(0, 1024, 0, 0), 3),
+        (Call::Who(0, 20, HYPERFRAME, 0), 3),
+        (Call::Who(0, 20, 0, 2), 3),
+        (Call::Who(7, 1023, HYPERFRAME - 1, 1), 0),
+        (Call::Page(Imsi::new(&[9, 9]), 0), 3),
+        (Call::Page(Imsi::new(&[9; 16]), 0), 3),
+        (Call::Page(Imsi::new(&[9, 9, 10]), 0), 3),
+        (Call::Page(imsi, HYPERFRAME), 3),
+        (Call::Page(imsi, HYPERFRAME - 1), 16),
+        (open(0, (2, 2, 0, 0, 1, 3)), 0),
+        (Call::Page(imsi, HYPERFRAME - 1), 16),
+        (open(1, (0, 2, 0, 0, 4, 3)), 0),
+        (Call::Page(imsi, HYPERFRAME - 1), 0),
+        (Call::Page(imsi, HYPERFRAME), 3),
+        (Call::Page(Imsi::new(&[]), 0), 3),
+        (close(1), 0),
+        (Call::Page(imsi, HYPERFRAME - 1), 16),
+    ];
+    script(&mut cell(3, 2), &calls);
+}
+
+/// Pages I from a frame on: timeslot, block and frame.
+fn pages(both: &Both, rows: &[(u8, u32, (u32, u32, u32))]) {
+    for &(i, from, (tn, block, frame)) in rows {
+        let answer = both.page(&[i / 100, i / 10 % 10, i % 10], from);
+        let expected = PageAnswer {
+            refusal: 0,
+            tn,
+            block,
+            frame,
+        };
+        assert_eq!(answer, expected, "I {i}, FN {from}");
+    }
+}
+
+/// The last multiframe is 53,247; P = 5 leaves 2 of it, and 53,248 would leave 3.
+const LAST_MULTIFRAME: u32 = 51 * 53_247;
+
+#[test]
+fn page() {
+    let mut both = cell(0, 2);
+    script(&mut both, &[(open(9, (0, 2, 0, 0, 4, 0)), 0)]);
+    // A = 7, n = 35: 36 is group 1, 14 and 21 are block 2 of multiframes 2 and 3.
+    let rows = [
+        (0, 0, (0, 2, 16)),
+        (0, 16, (0, 2, 16)),
+        (0, 17, (0, 2, 5 * 51 + 16)),
+        (6, 0, (0, 8, 46)),
+        (36, 0, (0, 3, 22)),
+        (14, LAST_MULTIFRAME + 16, (0, 2, LAST_MULTIFRAME + 16)),
+        (14, LAST_MULTIFRAME + 17, (0, 2, 2 * 51 + 16)),
+        (21, LAST_MULTIFRAME + 17, (0, 2, 3 * 51 + 16)),
+        (0, LAST_MULTIFRAME + 50, (0, 2, 16)),
+    ];
+    pages(&both, &rows);
+    let sixes = [
+        (open(8, (2, 2, 0, 0, 6, 0)), 0),
+        (open(1, (4, 2, 0, 0, 6, 0)), 0),
+    ];
+    script(&mut both, &sixes);
+    let rows = [
+        (0, 0, (0, 2, 16)),
+        (35, 0, (2, 2, 16)),
+        (36, 0, (2, 3, 22)),
+        (70, 0, (4, 2, 16)),
+        (105, 0, (0, 2, 16)),
+    ];
+    pages(&both, &rows);
+}
+
+#[test]
+fn page_with_the_combined_channel() {
+    let mut both = cell(0, 1);
+    script(&mut both, &[(open(9, (0, 2, 0, 0, 5, 0)), 0)]);
+    // A = 2, n = 10.
+    let rows = [
+        (0, 0, (0, 1, 12)),
+        (1, 0, (0, 2, 16)),
+        (2, 0, (0, 1, 51 + 12)),
+        (9, 0, (0, 2, 4 * 51 + 16)),
+        (10, 0, (0, 1, 12)),
+    ];
+    pages(&both, &rows);
 }

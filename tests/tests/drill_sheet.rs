@@ -1,7 +1,8 @@
-//! The rows of document 01's drill sheet that the C interface can answer (paging is not in it).
+//! The rows of document 01's drill sheet, asked of the C interface.
 
 use tdma_tests::frame_map::Channel;
-use tdma_tests::library::{hop, join, map, split, HopAnswer, MapAnswer};
+use tdma_tests::library::{hop, join, map, open, page, split, start};
+use tdma_tests::library::{HopAnswer, MapAnswer, PageAnswer};
 
 const CA: [u16; 4] = [10, 20, 30, 40];
 const DOWNLINK: u32 = 0;
@@ -60,4 +61,18 @@ fn control() {
     assert_eq!(map(5, 0, 13, UPLINK), burst(Channel::Sacch, 3, 0, 3));
     assert_eq!(map(5, 0, 14, UPLINK), burst(Channel::Rach, 0, 2, 0));
     assert_eq!(map(5, 0, 64, UPLINK), burst(Channel::Sacch, 1, 0, 3));
+}
+
+#[test]
+fn paging() {
+    let started = start(&CA, 10, 0, 1, 5);
+    let opened = open(&started.cell, 0, &(0, 1, 0, 0, 4, 0).into());
+    assert_eq!((started.refusal, opened.refusal), (0, 0));
+    let answer = PageAnswer {
+        refusal: 0,
+        tn: 0,
+        block: 4,
+        frame: 26,
+    };
+    assert_eq!(page(&opened.cell, &[1, 2, 3], 0), answer);
 }
