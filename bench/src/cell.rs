@@ -13,12 +13,12 @@ use tdma_tests::cell::{self, subchannels, OpenLine};
 use tdma_tests::clock::HYPERFRAME;
 use tdma_tests::draw::plan_of;
 use tdma_tests::frame_map::Channel;
-use tdma_tests::library::{self, Changed, LineAnswer};
+use tdma_tests::library::{self, Changed, LineAnswer, PageAnswer, WhoAnswer};
 use tdma_tests::random::Random;
 use tdma_tests::{LINE_CLOSED, LINE_OPEN, OUT_OF_RANGE};
 
 /// How many inputs a pass has: few, as the second implementation is slow to copy a full cell.
-const CALLS: usize = 1_000;
+pub const CALLS: usize = 1_000;
 /// How many cells they are spread over: few, so that no contender waits for memory.
 const CELLS: u32 = 2;
 
@@ -26,7 +26,7 @@ fn leak<T>(count: usize, mut draw: impl FnMut() -> T) -> &'static [T] {
     (0..count).map(|_| draw()).collect::<Vec<T>>().leak()
 }
 
-fn line(label: String, contenders: Vec<Contender>) -> Line {
+pub fn line(label: String, contenders: Vec<Contender>) -> Line {
     Line {
         label,
         inputs: CALLS,
@@ -36,7 +36,7 @@ fn line(label: String, contenders: Vec<Contender>) -> Line {
 
 /// The opens of a full cell, eight lines to a timeslot: with N = 1 they have an ARFCN each, with N
 /// from 8 on they hop in step.
-fn opens(random: &mut Random, n: u32, cyclic: bool) -> Vec<Call> {
+pub fn opens(random: &mut Random, n: u32, cyclic: bool) -> Vec<Call> {
     let mask = random.mask(n, 64);
     let hsn = if cyclic { 0 } else { 1 + random.below(63) };
     let open = |line: u32| {
@@ -64,14 +64,14 @@ fn seizes(random: &mut Random, cell: &cell::Cell) -> Vec<Call> {
 }
 
 /// The cell after more calls, which must be accepted.
-fn after(mut both: Both, calls: &[Call]) -> Both {
+pub fn after(mut both: Both, calls: &[Call]) -> Both {
     for call in calls {
         assert_eq!(both.make(call), 0, "{call:?}");
     }
     both
 }
 
-fn empty(random: &mut Random) -> Both {
+pub fn empty(random: &mut Random) -> Both {
     Both::started(&plan_of(random, 64))
 }
 
@@ -87,10 +87,10 @@ fn held(random: &mut Random, n: u32, cyclic: bool) -> Both {
 }
 
 /// Calls, and the cell that each is made on.
-type Asked = &'static [(&'static Both, Call)];
+pub type Asked = &'static [(&'static Both, Call)];
 
 /// Draws cells with calls for each, and then calls of these.
-fn asked(random: &mut Random, mut draw: impl FnMut(&mut Random) -> (Both, Vec<Call>)) -> Asked {
+pub fn asked(random: &mut Random, mut draw: impl FnMut(&mut Random) -> (Both, Vec<Call>)) -> Asked {
     let cells = leak(CELLS as usize, || draw(random));
     leak(CALLS, || {
         let (both, calls) = &cells[random.below(CELLS) as usize];
@@ -104,12 +104,20 @@ fn line_added_up(a: LineAnswer) -> u32 {
     a.refusal + a.arfcn + a.owner + a.channel + a.subchannel + blocks
 }
 
+fn who_added_up(a: WhoAnswer) -> u32 {
+    a.refusal + a.found + a.line + line_added_up(a.answer)
+}
+
+fn page_added_up(a: PageAnswer) -> u32 {
+    a.refusal + a.tn + a.block + a.frame
+}
+
 /// The refusal, with the new cell kept in memory.
 fn kept(changed: &Changed) -> u32 {
     black_box(changed).refusal
 }
 
-fn library_call(cell: &library::Cell, call: &Call) -> u32 {
+pub fn library_call(cell: &library::Cell, call: &Call) -> u32 {
     match *call {
         Call::Open(line, ref values) => kept(&library::open(cell, line, values)),
         Call::Close(line) => kept(&library::close(cell, line)),
@@ -118,13 +126,28 @@ fn library_call(cell: &library::Cell, call: &Call) -> u32 {
         Call::Line(line, frame, direction) => {
             line_added_up(library::line(cell, line, frame, direction))
         }
+        Call::Who(tn, arfcn, frame, direction) => {
+            who_added_up(library::who(cell, tn, arfcn, frame, direction))
+        }
+        Call::Page(ref imsi, frame) => page_added_up(library::page(cell, imsi.digits(), frame)),
     }
 }
 
-fn second_call(cell: &cell::Cell, call: &Call) -> u32 {
-    if let Call::Line(line, frame, direction) = *call {
-        return line_added_up(cell.line(line, frame, direction).into());
+pub fn second_call(cell: &cell::Cell, call: &Call) -> u32 {
+    match *call {
+        Call::Line(line, frame, direction) => {
+            line_added_up(cell.line(line, frame, direction).into())
+        }
+        Call::Who(tn, arfcn, frame, direction) => {
+            who_added_up(cell.who(tn, arfcn, frame, direction).into())
+        }
+        Call::Page(ref imsi, frame) => page_added_up(cell.page(imsi.digits(), frame).into()),
+        _ => second_copied(cell, call),
     }
+}
+
+/// A call that changes the cell, on a copy.
+fn second_copied(cell: &cell::Cell, call: &Call) -> u32 {
     let mut cell = cell.clone();
     let answer = second_change(&mut cell, call).unwrap();
     black_box(&cell);

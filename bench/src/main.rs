@@ -1,6 +1,7 @@
 //! Nanoseconds for each call of the library, beside the second implementation of `tests/`,
 //! libosmocore and plain tables, on the same random inputs in one run.
 
+mod ask;
 mod cell;
 mod osmocore;
 mod plain;
@@ -236,5 +237,6 @@ fn main() {
         map_table(&mut random, "map, answer stored", stored),
     ];
     tables.extend(cell::tables(&mut random));
+    tables.extend(ask::tables(&mut random));
     timing::run(tables);
 }
