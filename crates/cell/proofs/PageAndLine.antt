@@ -18,7 +18,8 @@ use Rattle.frame_map.specs.Map.{mapOf}
 use Rattle.frame_map.specs.Rows.{standing}
 use Rattle.paging.specs.declared.PagingBlock.{PagingBlock}
 use Rattle.paging.specs.Paging.{Common, lastThree, n, r, timeslot, isMultiframe, block, commonIn, isPaged, later, wait, blockFor, isImsi, pagingCauses, pagingOf}
-use Rattle.paging.proofs.FirstBlock.{FirstBlock, first}
+use Rattle.paging.proofs.BlockFrames.{start-below}
+use Rattle.paging.proofs.FirstBlock.{FirstBlock, first, past-turn}
 use Rattle.paging.proofs.Group.{turn-below}
 use Rattle.paging.proofs.Imsi.{last-three-below}
 use Rattle.paging.proofs.PagedFrames.{stands-alone, in-map}
@@ -47,6 +48,10 @@ block-for c i fn h = sym (ap (λ (t : Bool). cond t none (group-block c i fn)) (
   where
     none : PagingBlock
     none = record { tn = 0; block = 0; frame = 0 }
+
+-- the multiframe of a frame that is given by multiframe and place
+first-multiframe : {f m s : ℕ} → f ≡ 51 * m + s → s < 51 → f / 51 ≡ m
+first-multiframe e h = omega arith
 
 module _ (start : Cell) (begun : Begun start) (past : List Made) (sound : Sound start past) (placed : Placed start past) where
   abbrev cell : Cell
@@ -123,6 +128,7 @@ module _ (start : Cell) (begun : Begun start) (past : List Made) (sound : Sound 
           multiframe = eqb-true _ _ (and-left (isMultiframe common i frame) _ (found .begins));
           frame = refl;
           first = found .none-before;
+          past-turn = λ none. first-multiframe (past-turn common i fn has-groups (last-three-below digits imsi) hf none) (start-below (block common i));
         }
       where
         v : Values

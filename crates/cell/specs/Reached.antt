@@ -1,6 +1,6 @@
 -- What who and page answer of a cell that the calls can hand back. The statements; proofs/Who.antt and proofs/Paging.antt prove them. Assumes
 -- nothing.
-use Prim.Native.Nat.{ℕ, _/_, _%_, _<_}
+use Prim.Native.Nat.{ℕ, _/_, _%_, _≤_, _<_}
 use mathlib.Core.Path.{_≡_}
 use mathlib.Core.Bool.{true, false}
 use mathlib.Core.List.{List, [], _∷_}
@@ -77,6 +77,9 @@ pub record PagedOn (c : Cell) (digits : List ℕ) (fn : ℕ) (b : PagingBlock) :
   -- and no frame from FN to it is the phone's, past the return to 0 too
   pub frame : b .frame ≡ later fn (wait (commonOf c) (lastThree digits) fn)
   pub first : (d : ℕ) → d < wait (commonOf c) (lastThree digits) fn → isPaged (commonOf c) (lastThree digits) (later fn d) ≡ false
+  -- multiframes are counted from 0 again: where none of the phone's is left before the return to 0, its first one is multiframe G div A
+  pub past-turn : ((f : ℕ) → fn ≤ f → f < hyperframe → isPaged (commonOf c) (lastThree digits) f ≡ false)
+      → b .frame / 51 ≡ G (commonOf c) (lastThree digits) / A (commonOf c)
 
 unfoldable pub PageAndLine : Type 0
 PageAndLine = (c : Cell) → Reached c → (digits : List ℕ) (fn : ℕ) (b : PagingBlock) → pageOf c digits fn ≡ accepted b → PagedOn c digits fn b
