@@ -5,7 +5,7 @@ use mathlib.Core.Bool.{true, not}
 use lib.Dec.{lit≤}
 use borrow.Author.Tests.{le-ltb}
 use Rattle.answers.specs.Outcome.{accepted, decide, anyOf}
-use Rattle.answers.specs.Search.{allBelow, anyBelow, least}
+use Rattle.answers.specs.Search.{allBelow, anyBelow, countBelow, least}
 use Rattle.answers.proofs.Decide.{passes, accepts}
 use Rattle.hopping.specs.Masks.{onesBelow, positionAt, oneAtOrAbove, shareOne}
 use Rattle.hopping.specs.Allocation.{isAllocation}
@@ -14,12 +14,16 @@ use Rattle.hopping.specs.Clash.{clash}
 use Rattle.frame_map.specs.Rows.{numbered, each, from, standing}
 use Rattle.frame_map.specs.Combinations.{fullRate, halfRate, uncombined, combined, additional, sdcch8, combinations, among, rowsAmong, rowsOf, isCombination}
 use Rattle.frame_map.specs.Map.{mapOf}
+use Rattle.paging.specs.Paging.{pagingOf}
+use Rattle.paging.proofs.Drill.{one-line, drill}
 use Rattle.cell.specs.State.{tabulate, closedLine, empty}
 use Rattle.cell.specs.Calls.{startOf, openOf, seizeOf}
 use Rattle.cell.specs.OnAir.{ownerOf, slotOf, lineOf}
+use Rattle.cell.specs.Paging.{commonOf, pageOf}
+use Rattle.cell.specs.Who.{matchOf, whoOf}
 use Rattle.cell.specs.CollisionFree.{run}
 use Rattle.cell.specs.ExampleRun.{refusals}
-use Rattle.examples.specs.DrillSheet.{DrillSheet}
+use Rattle.examples.specs.DrillSheet.{imsi, traffic, DrillSheet}
 
 -- a question in range is answered by what stands there
 module _ (n tn fn d : ℕ) (t : tn ≤ 7) (f : fn ≤ 2715647) (e : d ≤ 1) where
@@ -27,8 +31,13 @@ module _ (n tn fn d : ℕ) (t : tn ≤ 7) (f : fn ≤ 2715647) (e : d ≤ 1) whe
   unfolding mapOf
   in-range c = passes _ _ _ (ap not c, (le-ltb _ _ t, (le-ltb _ _ f, (le-ltb _ _ e, tt)))) ∙ accepts _
 
+-- what paging takes from the cell. The search for the frame isn't computed here: `drill` has it
+one-common-line : commonOf traffic ≡ one-line
+unfolding run shareOne clash tabulate closedLine empty startOf openOf seizeOf decide anyOf allBelow anyBelow countBelow onesBelow oneAtOrAbove isAllocation combinations among
+one-common-line = refl
+
 pub drill-sheet : DrillSheet
-unfolding lineOf slotOf ownerOf mapOf refusals run shareOne clash tabulate closedLine empty startOf openOf seizeOf uncombined additional decide anyOf allBelow anyBelow least onesBelow positionAt oneAtOrAbove isAllocation rntable nbin S maiOf positionOf hopOf numbered each from standing fullRate halfRate combined sdcch8 combinations among rowsAmong
+unfolding whoOf matchOf pageOf lineOf slotOf ownerOf mapOf refusals run shareOne clash tabulate closedLine empty startOf openOf seizeOf uncombined additional decide anyOf allBelow anyBelow least onesBelow positionAt oneAtOrAbove isAllocation rntable nbin S maiOf positionOf hopOf numbered each from standing fullRate halfRate combined sdcch8 combinations among rowsAmong
 drill-sheet =
     record {
       last-frame = refl;
@@ -46,6 +55,8 @@ drill-sheet =
       combined-fn-13 = λ tn h. in-range 5 tn 13 1 h (lit≤ tt) (lit≤ tt) refl;
       combined-fn-14 = λ tn h. in-range 5 tn 14 1 h (lit≤ tt) (lit≤ tt) refl;
       combined-fn-64 = λ tn h. in-range 5 tn 64 1 h (lit≤ tt) (lit≤ tt) refl;
+      paged = drill .0;
+      accepted-start = refl;
       accepted-calls = refl;
       accepted-combined = refl;
       line-cyclic = refl;
@@ -61,4 +72,8 @@ drill-sheet =
       line-combined-fn-13 = refl;
       line-combined-fn-14 = refl;
       line-combined-fn-64 = refl;
+      page-asked = ap (λ c. pagingOf c imsi 0) one-common-line ∙ drill .0;
+      line-paged = refl;
+      who-cyclic = refl;
+      who-nobody = refl;
     }

@@ -1,1 +1,2 @@
 pub mod Drill
+pub mod Checks

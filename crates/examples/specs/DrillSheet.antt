@@ -1,17 +1,21 @@
--- Document 01's drill sheet as a single fact over the definitions: the rows that can be asked by now, in its order. Assumes nothing.
+-- Document 01's drill sheet as a single fact over the definitions: all its rows, in its order, and the same rows asked of a cell. Assumes nothing.
 use Prim.Native.Nat.{ℕ, _≤_}
 use mathlib.Core.Path.{_≡_}
+use mathlib.Core.Bool.{false}
 use mathlib.Core.List.{List, [], _∷_}
-use mathlib.Core.Option.{none}
+use mathlib.Core.Option.{none, some}
 use Rattle.answers.specs.Outcome.{accepted}
 use Rattle.clock.specs.Clock.{splitOf, joinOf}
 use Rattle.hopping.specs.Hopping.{hopOf}
-use Rattle.frame_map.specs.declared.Kind.the-variants.{Tch, Sacch, Sdcch, Rach}
+use Rattle.frame_map.specs.declared.Kind.the-variants.{Tch, Sacch, Sdcch, Ccch, Rach}
 use Rattle.frame_map.specs.Channels.{at}
 use Rattle.frame_map.specs.Map.{mapOf}
+use Rattle.paging.specs.Paging.{pagingOf}
 use Rattle.cell.specs.declared.Cell.{Cell}
 use Rattle.cell.specs.Calls.{startOf}
-use Rattle.cell.specs.OnAir.{lineOf}
+use Rattle.cell.specs.OnAir.{Slot, lineOf}
+use Rattle.cell.specs.Paging.{pageOf}
+use Rattle.cell.specs.Who.{whoOf}
 use Rattle.cell.specs.History.{Call, opens, seizes}
 use Rattle.cell.specs.CollisionFree.{run, begin}
 use Rattle.cell.specs.ExampleRun.{refusals, values}
@@ -19,6 +23,10 @@ use Rattle.cell.specs.ExampleRun.{refusals, values}
 -- "CA is 10, 20, 30, 40"
 abbrev pub ca : List ℕ
 ca = 10 ∷ 20 ∷ 30 ∷ 40 ∷ []
+
+-- "I = 123"
+abbrev pub imsi : List ℕ
+imsi = 1 ∷ 2 ∷ 3 ∷ []
 
 -- the rows asked of a cell: C0 10, BCC 0, AG 1, P 5, as in the last row
 abbrev pub empty : Cell
@@ -46,6 +54,10 @@ combinedCalls = opens 0 (values 0 1 0 0 5 0) ∷ seizes 0 3 78 ∷ []
 abbrev pub combined : Cell
 combined = run (begin empty) combinedCalls .cell
 
+-- what line 1 of `traffic` has in frame 5
+abbrev pub cyclicSlot : Slot
+cyclicSlot = record { arfcn = 20; standing = at Tch 0 1 1 ∷ at Tch 0 0 5 ∷ []; owner = 0 }
+
 pub record DrillSheet : Type 0 where
   -- "FN 2,715,647 is (2047, 25, 50); (0, 25, 0) is FN 51"
   pub last-frame : splitOf 2715647 ≡ accepted (record { t1 = 2047; t2 = 25; t3 = 50 })
@@ -70,10 +82,13 @@ pub record DrillSheet : Type 0 where
   pub combined-fn-13 : (tn : ℕ) → tn ≤ 7 → mapOf 5 tn 13 1 ≡ accepted (at Sacch 3 0 3 ∷ [])
   pub combined-fn-14 : (tn : ℕ) → tn ≤ 7 → mapOf 5 tn 14 1 ≡ accepted (at Rach 0 2 0 ∷ [])
   pub combined-fn-64 : (tn : ℕ) → tn ≤ 7 → mapOf 5 tn 64 1 ≡ accepted (at Sacch 1 0 3 ∷ [])
+  -- "I = 123, K = 1, a line of combination 4, AG 1, P 5, FN 0: TN 0, block 4, frame 26"
+  pub paged : pagingOf (record { K = 1; combined = false; AG = 1; P = 5 }) imsi 0 ≡ accepted (record { tn = 0; block = 4; frame = 26 })
   -- the same, asked of a cell
+  pub accepted-start : startOf ca 10 0 1 5 .refusal ≡ none
   pub accepted-calls : refusals empty calls ≡ none ∷ none ∷ none ∷ none ∷ none ∷ none ∷ none ∷ []
   pub accepted-combined : refusals empty combinedCalls ≡ none ∷ none ∷ []
-  pub line-cyclic : lineOf traffic 1 5 0 ≡ accepted (record { arfcn = 20; standing = at Tch 0 1 1 ∷ at Tch 0 0 5 ∷ []; owner = 0 })
+  pub line-cyclic : lineOf traffic 1 5 0 ≡ accepted cyclicSlot
   pub line-mask-7-fn-0 : lineOf traffic 3 0 0 ≡ accepted (record { arfcn = 30; standing = at Tch 0 0 0 ∷ at Tch 0 5 4 ∷ []; owner = 0 })
   pub line-mask-7-fn-2 : lineOf traffic 3 2 0 ≡ accepted (record { arfcn = 30; standing = at Tch 0 0 2 ∷ at Tch 0 5 6 ∷ []; owner = 0 })
   pub line-mask-7-fn-4 : lineOf traffic 3 4 0 ≡ accepted (record { arfcn = 10; standing = at Tch 0 1 0 ∷ at Tch 0 0 4 ∷ []; owner = 0 })
@@ -86,3 +101,9 @@ pub record DrillSheet : Type 0 where
   pub line-combined-fn-13 : lineOf combined 0 13 1 ≡ accepted (record { arfcn = 10; standing = at Sacch 3 0 3 ∷ []; owner = 78 })
   pub line-combined-fn-14 : lineOf combined 0 14 1 ≡ accepted (record { arfcn = 10; standing = at Rach 0 2 0 ∷ []; owner = 0 })
   pub line-combined-fn-64 : lineOf combined 0 64 1 ≡ accepted (record { arfcn = 10; standing = at Sacch 1 0 3 ∷ []; owner = 0 })
+  pub page-asked : pageOf traffic imsi 0 ≡ accepted (record { tn = 0; block = 4; frame = 26 })
+  -- that block on the air
+  pub line-paged : lineOf traffic 0 26 0 ≡ accepted (record { arfcn = 10; standing = at Ccch 0 4 0 ∷ []; owner = 0 })
+  -- not of the sheet: who sends what `line-cyclic` has, and an ARFCN that nobody has in that frame
+  pub who-cyclic : whoOf traffic 1 20 5 0 ≡ accepted (some (record { line = 1; slot = cyclicSlot }))
+  pub who-nobody : whoOf traffic 1 10 5 0 ≡ accepted none

@@ -1,270 +1,135 @@
-// The rows of document 01's drill sheet, asked of the library: each question with its answer, in the words of the program `schedule`.
+// The rows of document 01's drill sheet, asked of the library: each question is printed with its answer, in the words of the program `schedule`,
+// and each answer is checked. That every check holds is proved, from what the library promises and the fact DrillSheet.
+mod ask;
+mod expected;
+mod print;
+
 use cell::Cell;
-use libc::STDOUT_FILENO;
-use tdma::TdmaMap;
-use tdma::cells::TdmaChanged;
-use tdma::cells::TdmaLine;
+use expected::CCCH;
+use expected::RACH;
+use expected::SACCH;
+use expected::SDCCH;
+use expected::TCH;
+use expected::expect_accepted;
+use expected::expect_burst;
+use expected::expect_hop;
+use expected::expect_idle;
+use expected::expect_idle_line;
+use expected::expect_join;
+use expected::expect_one_block;
+use expected::expect_page;
+use expected::expect_split;
+use expected::expect_two_blocks;
+use expected::expect_who;
+ghost use mathlib.Core.Path.{_≡_};
+ghost use Rattle.examples.specs.DrillSheet as sheet;
 
-fn wide(n: u32) -> u64 {
-    n as u64
+fn clock_rows() {
+    expect_split(ask::split(2715647), 2047, 25, 50);
+    expect_join(ask::join(0, 25, 0), 51);
 }
 
-fn word(text: &[u8]) {
-    io::write_all(STDOUT_FILENO, text);
+fn hop_rows() {
+    expect_hop(ask::hop(7, 0, 2, 5), 20);
+    expect_hop(ask::hop(7, 1, 0, 0), 30);
+    expect_hop(ask::hop(7, 1, 0, 2), 30);
+    expect_hop(ask::hop(7, 1, 0, 4), 10);
+    expect_hop(ask::hop(7, 1, 1, 0), 10);
+    expect_hop(ask::hop(15, 1, 0, 3), 30);
 }
 
-fn number(n: u32) {
-    word(b" ");
-    io::print_decimal(STDOUT_FILENO, wide(n));
+fn map_rows() {
+    expect_burst(ask::map(1, 1, 25, 0), SACCH, 0, 0, 0);
+    expect_burst(ask::map(1, 1, 25, 1), SACCH, 0, 0, 0);
+    expect_idle(ask::map(1, 1, 12, 0));
+    expect_idle(ask::map(1, 1, 12, 1));
+    expect_burst(ask::map(2, 1, 12, 0), SACCH, 0, 0, 0);
+    expect_burst(ask::map(2, 1, 12, 1), SACCH, 0, 0, 0);
+    expect_burst(ask::map(7, 0, 102, 1), SACCH, 5, 0, 0);
+    expect_burst(ask::map(5, 0, 13, 1), SACCH, 3, 0, 3);
+    expect_burst(ask::map(5, 0, 14, 1), RACH, 0, 2, 0);
+    expect_burst(ask::map(5, 0, 64, 1), SACCH, 1, 0, 3);
 }
 
-fn refused(refusal: u32) {
-    word(b": refused");
-    number(refusal);
-    word(b"\n");
+// The cell for the rows on hopping, traffic, SDCCH and paging: AG 1, P 5, and one common line, a 4.
+fn traffic() -> Cell
+    ensures { λ r. ⌜ r ≡ sheet.traffic ⌝ }
+{
+    let c = expect_accepted(ask::start(10, 0, 1, 5));
+    let c = expect_accepted(ask::open(c, 0, 0, 1, 0, 0, 4, 0));
+    let c = expect_accepted(ask::open(c, 1, 1, 7, 0, 2, 1, 3));
+    let c = expect_accepted(ask::open(c, 2, 1, 8, 0, 0, 2, 3));
+    let c = expect_accepted(ask::open(c, 3, 2, 7, 1, 0, 1, 3));
+    let c = expect_accepted(ask::open(c, 4, 2, 7, 1, 1, 1, 3));
+    let c = expect_accepted(ask::open(c, 5, 3, 15, 1, 0, 7, 3));
+    expect_accepted(ask::seize(c, 5, 5, 77))
 }
 
-fn split(frame: u32) {
-    word(b"split");
-    number(frame);
-    let a = tdma::tdma_split(frame);
-    if a.refusal != 0 {
-        refused(a.refusal);
-        return;
-    }
-    word(b": ok");
-    number(a.t1);
-    number(a.t2);
-    number(a.t3);
-    if a.given == 1 {
-        number(a.prime);
-    } else {
-        word(b" -");
-    }
-    word(b"\n");
+// The rows on hopping.
+fn arfcn_rows(c: Cell)
+    requires { ⌜ c ≡ sheet.traffic ⌝ }
+{
+    expect_two_blocks(ask::line(c, 1, 5, 0), 20, TCH, 0, 0, 1, 1, 0, 5);
+    expect_two_blocks(ask::line(c, 3, 0, 0), 30, TCH, 0, 0, 0, 0, 5, 4);
+    expect_two_blocks(ask::line(c, 3, 2, 0), 30, TCH, 0, 0, 0, 2, 5, 6);
+    expect_two_blocks(ask::line(c, 3, 4, 0), 10, TCH, 0, 0, 1, 0, 0, 4);
+    expect_two_blocks(ask::line(c, 4, 0, 0), 10, TCH, 0, 0, 0, 0, 5, 4);
+    expect_one_block(ask::line(c, 5, 3, 0), 30, SDCCH, 0, 0, 0, 3);
 }
 
-fn join(t1: u32, t2: u32, t3: u32) {
-    word(b"join");
-    number(t1);
-    number(t2);
-    number(t3);
-    let a = tdma::tdma_join(t1, t2, t3);
-    if a.refusal != 0 {
-        refused(a.refusal);
-        return;
-    }
-    word(b": ok");
-    number(a.frame);
-    word(b"\n");
+// The rows on traffic and SDCCH.
+fn traffic_rows(c: Cell)
+    requires { ⌜ c ≡ sheet.traffic ⌝ }
+{
+    expect_one_block(ask::line(c, 1, 25, 0), 10, SACCH, 0, 0, 0, 0);
+    expect_idle_line(ask::line(c, 1, 12, 0), 30);
+    expect_one_block(ask::line(c, 2, 12, 0), 40, SACCH, 0, 0, 0, 0);
+    expect_one_block(ask::line(c, 5, 102, 1), 30, SACCH, 5, 77, 0, 0);
 }
 
-// CA is 10, 20, 30, 40.
-fn hop(mask: u32, hsn: u32, maio: u32, frame: u32) {
-    word(b"hop");
-    number(mask);
-    number(hsn);
-    number(maio);
-    number(frame);
-    word(b" 10 20 30 40");
-    let ca = [10u16, 20, 30, 40];
-    let a = tdma::tdma_hop(&ca, wide(mask), hsn, maio, frame);
-    if a.refusal != 0 {
-        refused(a.refusal);
-        return;
-    }
-    word(b": ok");
-    number(a.arfcn);
-    word(b"\n");
+// The row on paging, and the paged block on the air.
+fn page_rows(c: Cell)
+    requires { ⌜ c ≡ sheet.traffic ⌝ }
+{
+    expect_page(ask::page(c, 0), 0, 4, 26);
+    expect_one_block(ask::line(c, 0, 26, 0), 10, CCCH, 0, 0, 4, 0);
 }
 
-fn channel(n: u32) {
-    match n {
-        1 => word(b" TCH"),
-        2 => word(b" SACCH"),
-        3 => word(b" SDCCH"),
-        4 => word(b" FCCH"),
-        5 => word(b" SCH"),
-        6 => word(b" BCCH"),
-        7 => word(b" CCCH"),
-        _ => word(b" RACH"),
-    }
+// Not of the sheet: who sends what the first row of `arfcn_rows` has, and an ARFCN that nobody has then.
+fn who_rows(c: Cell)
+    requires { ⌜ c ≡ sheet.traffic ⌝ }
+{
+    let answer = expect_who(ask::who(c, 1, 20, 5, 0), 1, 1);
+    expect_two_blocks(answer, 20, TCH, 0, 0, 1, 1, 0, 5);
+    let answer = expect_who(ask::who(c, 1, 10, 5, 0), 0, 0);
+    expect_idle_line(answer, 0);
 }
 
-fn small(n: u8) {
-    number(n as u32);
+// The cell for the rows on combination 5.
+fn combined() -> Cell
+    ensures { λ r. ⌜ r ≡ sheet.combined ⌝ }
+{
+    let c = expect_accepted(ask::start(10, 0, 1, 5));
+    let c = expect_accepted(ask::open(c, 0, 0, 1, 0, 0, 5, 0));
+    expect_accepted(ask::seize(c, 0, 3, 78))
 }
 
-fn burst(a: TdmaMap) {
-    channel(a.channel as u32);
-    small(a.subchannel);
-    small(a.block);
-    small(a.place);
-    if a.blocks == 2 {
-        small(a.block2);
-        small(a.place2);
-    }
-}
-
-fn map(combination: u32, tn: u32, frame: u32, direction: u32) {
-    word(b"map");
-    number(combination);
-    number(tn);
-    number(frame);
-    number(direction);
-    let a = tdma::tdma_map(combination, tn, frame, direction);
-    if a.refusal != 0 {
-        refused(a.refusal as u32);
-        return;
-    }
-    word(b": ok");
-    if a.channel == 0 {
-        word(b" idle");
-    } else {
-        burst(a);
-    }
-    word(b"\n");
-}
-
-// The answer of a call on the cell, and the cell after it.
-fn changed(a: TdmaChanged) -> Cell {
-    if a.refusal == 0 {
-        word(b": ok\n");
-        return a.cell;
-    }
-    word(b": refused");
-    number(a.refusal);
-    if a.refusal == 9 {
-        number(a.line);
-    }
-    word(b"\n");
-    a.cell
-}
-
-// CA is 10, 20, 30, 40.
-fn start(c0: u32, bcc: u32, ag: u32, p: u32) -> Cell {
-    word(b"start");
-    number(c0);
-    number(bcc);
-    number(ag);
-    number(p);
-    word(b" 10 20 30 40");
-    let ca = [10u16, 20, 30, 40];
-    changed(tdma::cells::tdma_start(&ca, c0, bcc, ag, p))
-}
-
-fn open(
-    cell: Cell,
-    line: u32,
-    tn: u32,
-    mask: u32,
-    hsn: u32,
-    maio: u32,
-    combination: u32,
-    tsc: u32,
-) -> Cell {
-    word(b"open");
-    number(line);
-    number(tn);
-    number(mask);
-    number(hsn);
-    number(maio);
-    number(combination);
-    number(tsc);
-    changed(tdma::cells::tdma_open(cell, line, tn, wide(mask), hsn, maio, combination, tsc))
-}
-
-fn seize(cell: Cell, line: u32, s: u32, owner: u32) -> Cell {
-    word(b"seize");
-    number(line);
-    number(s);
-    number(owner);
-    changed(tdma::cells::tdma_seize(cell, line, s, owner))
-}
-
-fn owned(a: TdmaLine) {
-    channel(a.channel);
-    number(a.subchannel);
-    number(a.owner);
-    number(a.block);
-    number(a.place);
-    if a.blocks == 2 {
-        number(a.block2);
-        number(a.place2);
-    }
-}
-
-fn line(cell: Cell, line: u32, frame: u32, direction: u32) {
-    word(b"line");
-    number(line);
-    number(frame);
-    number(direction);
-    let a = tdma::cells::tdma_line(cell, line, frame, direction);
-    if a.refusal != 0 {
-        refused(a.refusal);
-        return;
-    }
-    word(b": ok");
-    number(a.arfcn);
-    if a.channel == 0 {
-        word(b" idle");
-    } else {
-        owned(a);
-    }
-    word(b"\n");
-}
-
-// The rows on traffic and SDCCH, asked of a cell.
-fn traffic() {
-    let c = start(10, 0, 1, 5);
-    let c = open(c, 0, 0, 1, 0, 0, 4, 0);
-    let c = open(c, 1, 1, 7, 0, 2, 1, 3);
-    let c = open(c, 2, 1, 8, 0, 0, 2, 3);
-    let c = open(c, 3, 2, 7, 1, 0, 1, 3);
-    let c = open(c, 4, 2, 7, 1, 1, 1, 3);
-    let c = open(c, 5, 3, 15, 1, 0, 7, 3);
-    let c = seize(c, 5, 5, 77);
-    line(c, 1, 5, 0);
-    line(c, 3, 0, 0);
-    line(c, 3, 2, 0);
-    line(c, 3, 4, 0);
-    line(c, 4, 0, 0);
-    line(c, 5, 3, 0);
-    line(c, 1, 25, 0);
-    line(c, 1, 12, 0);
-    line(c, 2, 12, 0);
-    line(c, 5, 102, 1);
-}
-
-// The rows on combination 5.
-fn combined() {
-    let c = start(10, 0, 1, 5);
-    let c = open(c, 0, 0, 1, 0, 0, 5, 0);
-    let c = seize(c, 0, 3, 78);
-    line(c, 0, 13, 1);
-    line(c, 0, 14, 1);
-    line(c, 0, 64, 1);
+fn combined_rows(c: Cell)
+    requires { ⌜ c ≡ sheet.combined ⌝ }
+{
+    expect_one_block(ask::line(c, 0, 13, 1), 10, SACCH, 3, 78, 0, 3);
+    expect_one_block(ask::line(c, 0, 14, 1), 10, RACH, 0, 0, 2, 0);
+    expect_one_block(ask::line(c, 0, 64, 1), 10, SACCH, 1, 0, 0, 3);
 }
 
 fn main() {
-    split(2715647);
-    join(0, 25, 0);
-    hop(7, 0, 2, 5);
-    hop(7, 1, 0, 0);
-    hop(7, 1, 0, 2);
-    hop(7, 1, 0, 4);
-    hop(7, 1, 1, 0);
-    hop(15, 1, 0, 3);
-    map(1, 1, 25, 0);
-    map(1, 1, 25, 1);
-    map(1, 1, 12, 0);
-    map(1, 1, 12, 1);
-    map(2, 1, 12, 0);
-    map(2, 1, 12, 1);
-    map(7, 0, 102, 1);
-    map(5, 0, 13, 1);
-    map(5, 0, 14, 1);
-    map(5, 0, 64, 1);
-    traffic();
-    combined();
+    clock_rows();
+    hop_rows();
+    map_rows();
+    let c = traffic();
+    arfcn_rows(c);
+    traffic_rows(c);
+    page_rows(c);
+    who_rows(c);
+    combined_rows(combined());
 }

@@ -1,0 +1,35 @@
+-- `page_rows` meets its contract: each check follows from what the question promises and the sheet's row. Assumes nothing.
+use Rattle.frame_map.specs.Numbers.{standingNumbers}
+use Rattle.tdma.specs.Cells.{pageNumbers}
+use Rattle.cell.specs.Paging.{pageOf}
+use Rattle.examples.specs.DrillSheet.{imsi}
+use Rattle.examples.proofs.Drill.{drill-sheet}
+use Rattle.examples.proofs.Checks.{on-cell, on-line}
+use Rattle.examples.proofs.page_rows.Statement.{statement}
+use Rattle.examples.proofs.page_rows.Tie as tie
+
+page-requires : tie.Need-page-requires
+page-requires c κs = tt
+
+expect-page-requires : tie.Need-expect-page-requires
+expect-page-requires c κs = on-cell pageNumbers (λ x. pageOf x imsi 0) (c .page .ensures) (c .before .pre) (drill-sheet .page-asked)
+
+line-requires : tie.Need-line-requires
+line-requires c κs = tt
+
+expect-one-block-requires : tie.Need-expect-one-block-requires
+unfolding standingNumbers
+expect-one-block-requires c κs = on-line _ _ _ (c .line .ensures) (c .before .before .before .pre) (drill-sheet .line-paged)
+
+returns : tie.Need-returns
+returns c = tt
+
+pub page-rows-spec : {M : Type 1} → statement M
+page-rows-spec =
+    tie.close
+    (tie.spec
+    page-requires
+    expect-page-requires
+    line-requires
+    expect-one-block-requires
+    returns)
