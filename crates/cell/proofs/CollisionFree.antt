@@ -23,6 +23,7 @@ use Rattle.cell.specs.History.{Call, Made, openedWith, cellFrom}
 use Rattle.cell.specs.Carried.{Channel, subchannel, commonPart, lineNumber, isOf, Spot, Stands}
 use Rattle.cell.specs.CollisionFree.{CollisionFree, Run, calling, made, next, run, begin, ThirdDemand, Answered, Promised, handed, ThirdDemandOfCode}
 use Rattle.cell.proofs.Sound.{allowed-within, allowed-maio, allowed-tn, Sound, sound-first, Kept, call-kept}
+use Rattle.cell.proofs.Places.{Placed, placed-first, call-placed}
 use Rattle.cell.proofs.LineAnswer.{line-is}
 use Rattle.cell.proofs.Shown.{stands-shown, shown-stands}
 use Rattle.cell.proofs.Begun.{Begun, start-begun}
@@ -104,22 +105,28 @@ free-of first begun past sound =
       stands = λ x spot hf hd a. shown-stands first past sound x spot hf hd a;
     }
 
--- what every run has
+-- what every run has. That the common lines are in their places is for paging (PageAndLine.antt)
 pub record Invariant (first : Cell) (r : Run) : Type 0 where
   pub as-listed : r .cell ≡ cellFrom first (r .past)
   pub sound : Sound first (r .past)
+  pub placed : Placed first (r .past)
 
 collision-free-of : (first : Cell) → Begun first → (r : Run) → Invariant first r → CollisionFree first (r .past) (r .cell)
 collision-free-of first begun r h = subst (λ (c : Cell). CollisionFree first (r .past) c) (sym (h .as-listed)) (free-of first begun (r .past) (h .sound))
 
 pub begin-keeps : (first : Cell) → Begun first → Invariant first (begin first)
-begin-keeps first begun = record { as-listed = begun .nothing-open; sound = sound-first first }
+begin-keeps first begun = record { as-listed = begun .nothing-open; sound = sound-first first; placed = placed-first first }
 
 -- a call whose outcome is the definition's keeps it
-pub step-keeps : (first : Cell) (r : Run) → Invariant first r → (x : Call) (s : Step) → s ≡ calling (r .cell) x → Invariant first (record { cell = s .cell; past = made x s ∷ r .past })
+step-keeps : (first : Cell) (r : Run) → Invariant first r → (x : Call) (s : Step) → s ≡ calling (r .cell) x → Invariant first (record { cell = s .cell; past = made x s ∷ r .past })
 step-keeps first r h x s e =
-    let k : Kept first (r .past) (h .sound) x s = subst (Kept first (r .past) (h .sound) x) (ap (λ (c : Cell). calling c x) (sym (h .as-listed)) ∙ sym e) (call-kept first (r .past) (h .sound) x) in
-    record { as-listed = k .0; sound = k .1 }
+    let same : calling (cellFrom first (r .past)) x ≡ s = ap (λ (c : Cell). calling c x) (sym (h .as-listed)) ∙ sym e in
+    let k : Kept first (r .past) (h .sound) x s = subst (Kept first (r .past) (h .sound) x) same (call-kept first (r .past) (h .sound) x) in
+    record {
+      as-listed = k .0;
+      sound = k .1;
+      placed = subst (λ (t : Step). Placed first (made x t ∷ r .past)) same (call-placed first (r .past) (h .sound) (h .placed) x);
+    }
 
 pub run-keeps : (first : Cell) (calls : List Call) (r : Run) → Invariant first r → Invariant first (run r calls)
 unfolding run

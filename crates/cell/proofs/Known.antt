@@ -1,15 +1,15 @@
 -- What is known of a cell that the calls can hand back: it is what a sound history says, with the common lines in their places. Assumes nothing.
-use mathlib.Core.Path.{_≡_, refl, sym, ap, _∙_, subst}
+use mathlib.Core.Path.{_≡_, sym, ap, _∙_}
 use mathlib.Core.List.{List, [], _∷_}
 use Rattle.cell.specs.declared.Cell.{Cell}
 use Rattle.cell.specs.Calls.{Step, startOf}
 use Rattle.cell.specs.History.{Call, Made, cellFrom}
-use Rattle.cell.specs.CollisionFree.{Run, calling, made, next, run, begin, Answered, Promised, handed}
+use Rattle.cell.specs.CollisionFree.{Run, calling, run, begin, Answered, Promised, handed}
 use Rattle.cell.specs.Reached.{Reached, ReachedByCode}
 use Rattle.cell.proofs.Begun.{Begun, start-begun}
 use Rattle.cell.proofs.Sound.{Sound}
-use Rattle.cell.proofs.Places.{Placed, placed-first, call-placed}
-use Rattle.cell.proofs.CollisionFree.{Invariant, begin-keeps, step-keeps, run-keeps}
+use Rattle.cell.proofs.Places.{Placed}
+use Rattle.cell.proofs.CollisionFree.{Invariant, begin-keeps, run-keeps}
 
 pub record Known (c : Cell) : Type 0 where
   pub first : Cell
@@ -19,16 +19,6 @@ pub record Known (c : Cell) : Type 0 where
   pub placed : Placed first past
   pub as-listed : c ≡ cellFrom first past
 
--- a call keeps the common lines in their places, and so does a list of calls
-call-keeps : (first : Cell) (r : Run) → Invariant first r → Placed first (r .past) → (x : Call) → Placed first (next r x .past)
-call-keeps first r h placed x =
-    subst (λ (c : Cell). Placed first (made x (calling c x) ∷ r .past)) (sym (h .as-listed)) (call-placed first (r .past) (h .sound) placed x)
-
-places-kept : (first : Cell) (calls : List Call) (r : Run) → Invariant first r → Placed first (r .past) → Placed first (run r calls .past)
-unfolding run
-places-kept first [] r h placed = placed
-places-kept first (x ∷ xs) r h placed = places-kept first xs (next r x) (step-keeps first r h x (calling (r .cell) x) refl) (call-keeps first r h placed x)
-
 pub known : (c : Cell) → Reached c → Known c
 known c w =
     record {
@@ -36,7 +26,7 @@ known c w =
       begun = begun;
       past = end .past;
       sound = kept .sound;
-      placed = places-kept first (w .calls) (begin first) (begin-keeps first begun) (placed-first first);
+      placed = kept .placed;
       as-listed = sym (w .handed-back) ∙ kept .as-listed;
     }
   where

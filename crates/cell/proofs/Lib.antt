@@ -3,6 +3,7 @@ pub mod Tabulate
 pub mod History
 pub mod AsListed
 pub mod Sound
+pub mod Places
 pub mod SubchannelRows
 pub mod LineAnswer
 pub mod Shown
@@ -10,8 +11,7 @@ pub mod Begun
 pub mod CollisionFree
 pub mod ExampleRun
 pub mod Causes
-pub mod Places
-pub mod CommonLines
 pub mod Known
-pub mod PageAndLine
 pub mod WhoAndLine
+pub mod CommonLines
+pub mod PageAndLine

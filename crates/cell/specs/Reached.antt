@@ -1,5 +1,5 @@
--- What who and page answer of a cell that the calls can hand back. The statements; proofs/Who.antt and proofs/Paging.antt prove them. Assumes
--- nothing.
+-- What who and page answer of a cell that the calls can hand back. The statements; proofs/WhoAndLine.antt and proofs/PageAndLine.antt prove
+-- them. Assumes nothing.
 use Prim.Native.Nat.{ℕ, _/_, _%_, _≤_, _<_}
 use mathlib.Core.Path.{_≡_}
 use mathlib.Core.Bool.{true, false}

@@ -1,6 +1,6 @@
-// The cell: its table of lines, and the calls on it. Document 01, "The cell and its calls". common.rt has the places of common channels (refusal
-// 8), clash.rt the line that stands in the way (9), subchannels.rt the owners of a line, air.rt what a line sends in a frame, seek.rt the line
-// that has an ARFCN, allocation.rt the cell allocation.
+// The cell: its table of lines, and the calls on it. Document 01, "The cell and its calls" and "Paging". common.rt has the places of common
+// channels (refusal 8) and their count, clash.rt the line that stands in the way (9), subchannels.rt the owners of a line, air.rt what a line
+// sends in a frame, seek.rt the line that has an ARFCN, allocation.rt the cell allocation.
 mod air;
 mod allocation;
 mod clash;
