@@ -22,7 +22,7 @@ use Rattle.cell.specs.State.{Values, lineCount, isOpen, lineAt, allocati
 use Rattle.cell.specs.OnAir.{Slot, arfcnIn, slotOf, lineCauses, lineOf}
 use Rattle.cell.specs.Who.{lineIsOn, Match, matchAt, whoCauses, matchOf, whoOf}
 use Rattle.cell.specs.History.{Made, openedWith, cellFrom}
-use Rattle.cell.specs.Reached.{WhoAgrees, WhoAndLine}
+use Rattle.cell.specs.Reached.{NoneShown, WhoAgrees, WhoAndLine}
 use Rattle.cell.proofs.Begun.{Begun}
 use Rattle.cell.proofs.Sound.{Sound, allowed-tn, allowed-within, allowed-maio, open-line, is-opened}
 use Rattle.cell.proofs.LineAnswer.{arfcn-is}
@@ -188,15 +188,22 @@ module _ (first : Cell) (begun : Begun first) (past : List Made) (sound : Sound 
           ∙ ap accepted (found cell tn arfcn fn direction w
           ∙ ap (λ (k : ℕ). some (matchAt cell k fn direction)) (one-line tn arfcn fn (w .place) n (l .frame) (w .below) (l .within) (w .passes) on)))
 
-  nobody : (tn arfcn fn direction : ℕ) → whoOf cell tn arfcn fn direction ≡ accepted none
-      → (n : ℕ) (s : Slot) → lineOf cell n fn direction ≡ accepted s → lineAt cell n .tn ≡ tn → s .arfcn ≡ arfcn → ⊥
+  nobody : (tn arfcn fn direction : ℕ) → whoOf cell tn arfcn fn direction ≡ accepted none → NoneShown cell tn arfcn fn direction
   nobody tn arfcn fn direction e n s h t q =
       let a : whoOf cell tn arfcn fn direction ≡ accepted (some (record { line = n; slot = s })) =
       ap (λ (x : ℕ). whoOf cell x arfcn fn direction) (sym t) ∙ (ap (λ (x : ℕ). whoOf cell (lineAt cell n .tn) x fn direction) (sym q) ∙ named n fn direction s h) in
       let z : _≡_ {A = ℕ} 0 1 = cc in omega arith
 
+  only-nobody : (tn arfcn fn direction : ℕ) → tn ≤ 7 → arfcn ≤ 1023 → fn < hyperframe → direction ≤ 1 → NoneShown cell tn arfcn fn direction
+      → whoOf cell tn arfcn fn direction ≡ accepted none
+  unfolding whoOf slotOf
+  only-nobody tn arfcn fn direction ht ha hf hd h =
+      ⊎-elim (λ w. absurd (h (w .place) _ (shows-line cell fn direction (w .place) (w .below) hf hd (on-open cell tn arfcn fn (w .place) (w .passes))) (on-tn cell tn arfcn fn (w .place) (w .passes)) (on-arfcn cell tn arfcn fn (w .place) (w .passes))))
+      (λ f. passes _ _ _ (le-ltb 7 tn ht, (le-ltb 1023 arfcn ha, (lt-leb _ _ hf, (le-ltb 1 direction hd, tt)))) ∙ (accepts _ ∙ ap accepted (none-found cell tn arfcn fn direction f)))
+      (first-or-none (lineIsOn cell tn arfcn fn) lineCount)
+
   who-agrees : WhoAgrees cell
-  who-agrees = record { at-most-one = one-line; shown = shown; named = named; nobody = nobody }
+  who-agrees = record { at-most-one = one-line; shown = shown; named = named; nobody = nobody; only-nobody = only-nobody }
 
 -- ---- the claim
 

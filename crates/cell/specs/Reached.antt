@@ -40,6 +40,10 @@ ReachedByCode =
 
 -- ---- who
 
+-- `line` shows no line of that timeslot on that ARFCN
+abbrev pub NoneShown : Cell → ℕ → ℕ → ℕ → ℕ → Type 0
+NoneShown c tn arfcn fn direction = (n : ℕ) (s : Slot) → lineOf c n fn direction ≡ accepted s → lineAt c n .tn ≡ tn → s .arfcn ≡ arfcn → ⊥
+
 pub record WhoAgrees (c : Cell) : Type 0 where
   -- at most one line qualifies, so that the answer does not hang on the order of the search
   pub at-most-one : (tn arfcn fn m n : ℕ) → fn < hyperframe → m < lineCount → n < lineCount
@@ -50,9 +54,10 @@ pub record WhoAgrees (c : Cell) : Type 0 where
   -- what `line` shows, `who` names
   pub named : (n fn direction : ℕ) (s : Slot) → lineOf c n fn direction ≡ accepted s
       → whoOf c (lineAt c n .tn) (s .arfcn) fn direction ≡ accepted (some (record { line = n; slot = s }))
-  -- where `who` says nobody, `line` shows no line of that timeslot on that ARFCN
-  pub nobody : (tn arfcn fn direction : ℕ) → whoOf c tn arfcn fn direction ≡ accepted none
-      → (n : ℕ) (s : Slot) → lineOf c n fn direction ≡ accepted s → lineAt c n .tn ≡ tn → s .arfcn ≡ arfcn → ⊥
+  -- `who` says nobody exactly where `line` shows no line of that timeslot on that ARFCN
+  pub nobody : (tn arfcn fn direction : ℕ) → whoOf c tn arfcn fn direction ≡ accepted none → NoneShown c tn arfcn fn direction
+  pub only-nobody : (tn arfcn fn direction : ℕ) → tn ≤ 7 → arfcn ≤ 1023 → fn < hyperframe → direction ≤ 1 → NoneShown c tn arfcn fn direction
+      → whoOf c tn arfcn fn direction ≡ accepted none
 
 -- of every cell that the calls can hand back
 unfoldable pub WhoAndLine : Type 0
