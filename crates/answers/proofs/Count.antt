@@ -5,7 +5,7 @@ use mathlib.Core.Bool.{Bool, true, false, not, _&&_, cond}
 use native.Mathlib.Omega.{arith}
 use native.Mathlib.Numerals.{add-one}
 use Rattle.answers.specs.Search.{countBelow}
-use Rattle.answers.proofs.Tests.{refute}
+use Rattle.answers.proofs.Tests.{refute, not-both}
 
 -- what a number adds to the count
 pub one-le : (b : Bool) → cond b 1 0 ≤ 1
@@ -16,11 +16,6 @@ module _ (test : ℕ → Bool) where
   pub count-next : (n : ℕ) → countBelow test (n + 1) ≡ countBelow test n + cond (test n) 1 0
   unfolding countBelow
   count-next n = rw add-one refl
-
-  pub count-le : (n : ℕ) → countBelow test n ≤ n
-  unfolding countBelow
-  count-le zero = omega arith
-  count-le (suc n) = let h = count-le n in let o = one-le (test n) in omega (arith, h, o)
 
   pub count-none : (n : ℕ) → ((k : ℕ) → k < n → test k ≡ false) → countBelow test n ≡ 0
   unfolding countBelow
@@ -54,3 +49,17 @@ module _ (test : ℕ → Bool) where
       one true false = refl
       one false true = refl
       one false false = refl
+
+-- where every number that passes a test passes another, that one counts no fewer
+pub count-mono : (test other : ℕ → Bool) (n : ℕ) → ((k : ℕ) → k < n → test k ≡ true → other k ≡ true) → countBelow test n ≤ countBelow other n
+unfolding countBelow
+count-mono test other zero f = omega arith
+count-mono test other (suc n) f =
+    let h = count-mono test other n (λ k l. f k (omega arith)) in
+    let o = one (test n) (other n) (f n (omega arith)) in
+    omega (arith, h, o)
+  where
+    one : (a b : Bool) → (a ≡ true → b ≡ true) → _≤_ (cond a 1 0) (cond b 1 0)
+    one true true g = omega arith
+    one true false g = not-both (g refl) refl
+    one false b g = omega arith

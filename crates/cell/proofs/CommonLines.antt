@@ -1,5 +1,5 @@
 -- The open common lines of a cell that the calls can hand back: one in each of the timeslots 0, 2, .. 2 × (K − 1), and no other. Assumes nothing.
-use Prim.Native.Nat.{ℕ, zero, suc, _+_, _*_, _≤_, _<_}
+use Prim.Native.Nat.{ℕ, zero, suc, _+_, _-_, _*_, _/_, _%_, _≤_, _<_}
 use mathlib.Core.Path.{_≡_, refl, sym, ap, _∙_, subst}
 use mathlib.Core.Bool.{Bool, true, false, not, _&&_}
 use mathlib.Core.List.{List}
@@ -10,9 +10,9 @@ use native.Mathlib.Omega.{arith}
 use lib.Dec.{eqb, leb}
 use lib.ListN.{length, getD}
 use lib.Seq.{getD-take}
-use borrow.Author.Tests.{eqb-true, eqb-false, eq-eqb, ne-eqb, not-true, le-leb, le-ltb}
+use borrow.Author.Tests.{eqb-true, eqb-false, eq-eqb, ne-eqb, not-true, leb-true, le-leb, le-ltb}
 use Rattle.answers.specs.Search.{countBelow}
-use Rattle.answers.proofs.Count.{count-none, count-one, count-parted}
+use Rattle.answers.proofs.Count.{count-none, count-one, count-parted, count-mono}
 use Rattle.answers.proofs.Search.{First, any-at, any-none, first-or-none}
 use Rattle.answers.proofs.Tests.{and-left, and-right, and-both, and-false-right, refute, not-both}
 use Rattle.hopping.specs.Masks.{contains, ones, oneAtOrAbove, shareOne}
@@ -95,6 +95,10 @@ four-or-six-common : (k : ℕ) → (k ≡ 4) ⊎ (k ≡ 6) → isCommonCombinati
 four-or-six-common k (inl e) = four-common k e
 four-or-six-common k (inr e) = six-common k e
 
+even-place : (v : Values) → Place v → v .tn % 2 ≡ 0
+even-place v (inl p) = let e = p .1 in omega (arith, e)
+even-place v (inr p) = p .2
+
 clashing : (v w : Physical) → v .tn ≡ w .tn → shareOne (v .mask) (w .mask) ≡ true → v .maio ≡ w .maio → clash v w ≡ true
 unfolding clash
 clashing v w t s e =
@@ -171,116 +175,84 @@ module _ (first : Cell) (begun : Begun first) (past : List Made) (sound : Sound 
 
   -- ---- K, timeslot by timeslot
 
-  -- lines of which each is common and in timeslot tn: at most one
-  at-most-one : (test : ℕ → Bool) (tn : ℕ) → ((m : ℕ) → m < lineCount → test m ≡ true → (isCommonLine (lineAt cell m) ≡ true) × (lineAt cell m .tn ≡ tn)) → countBelow test lineCount ≤ 1
-  at-most-one test tn shows =
-      count-one test lineCount
-      (λ i j hi hj ei ej. let a = counted i hi (shows i hi ei .0) in let b = counted j hj (shows j hj ej .0) in
-      one-each i j (a .values) (b .values) (a .is-open) (b .is-open) (a .is-common) (b .is-common) (sym (a .timeslot) ∙ (shows i hi ei .1 ∙ (sym (shows j hj ej .1) ∙ b .timeslot))))
+  -- line m is common and stands in timeslot 2 × j or a higher one
+  abbrev isFrom : ℕ → ℕ → Bool
+  isFrom j m = isCommonLine (lineAt cell m) && leb (2 * j) (lineAt cell m .tn)
 
-  none-at : (test : ℕ → Bool) (tn : ℕ) → ((m : ℕ) → m < lineCount → test m ≡ true → (isCommonLine (lineAt cell m) ≡ true) × (lineAt cell m .tn ≡ tn)) → NoneIn tn → countBelow test lineCount ≡ 0
-  none-at test tn shows f =
-      count-none test lineCount
-      (λ m h. refute (test m) (λ t. let a = counted m h (shows m h t .0) in f m (a .values) (a .is-open) (a .is-common) (sym (a .timeslot) ∙ shows m h t .1)))
+  -- how many there are
+  abbrev from : ℕ → ℕ
+  from j = countBelow (isFrom j) lineCount
 
-  -- the common lines that stand in none of the timeslots before
-  abbrev is0 : ℕ → Bool
-  is0 m = isCommonLine (lineAt cell m)
+  -- a line that is counted, with its timeslot: even, below 8
+  record CountedFrom (j m : ℕ) : Type 0 where
+    pub line : Counted m
+    pub at-least : 2 * j ≤ line .values .tn
+    pub even : line .values .tn % 2 ≡ 0
+    pub below-8 : line .values .tn < 8
 
-  abbrev is2 : ℕ → Bool
-  is2 m = is0 m && not (eqb (lineAt cell m .tn) 0)
-
-  abbrev is4 : ℕ → Bool
-  is4 m = is2 m && not (eqb (lineAt cell m .tn) 2)
-
-  abbrev is6 : ℕ → Bool
-  is6 m = is4 m && not (eqb (lineAt cell m .tn) 4)
-
-  abbrev in0 : ℕ → Bool
-  in0 m = is0 m && eqb (lineAt cell m .tn) 0
-
-  abbrev in2 : ℕ → Bool
-  in2 m = is2 m && eqb (lineAt cell m .tn) 2
-
-  abbrev in4 : ℕ → Bool
-  in4 m = is4 m && eqb (lineAt cell m .tn) 4
-
-  parts : commonLines cell ≡ countBelow in0 lineCount + (countBelow in2 lineCount + (countBelow in4 lineCount + countBelow is6 lineCount))
-  parts =
-      let a = count-parted is0 (λ m. eqb (lineAt cell m .tn) 0) lineCount in
-      let b = count-parted is2 (λ m. eqb (lineAt cell m .tn) 2) lineCount in
-      let c = count-parted is4 (λ m. eqb (lineAt cell m .tn) 4) lineCount in
-      omega (arith, a, b, c)
-
-  shows0 : (m : ℕ) → m < lineCount → in0 m ≡ true → (is0 m ≡ true) × (lineAt cell m .tn ≡ 0)
-  shows0 m h e = (and-left (is0 m) _ e, eqb-true _ _ (and-right (is0 m) _ e))
-
-  shows2 : (m : ℕ) → m < lineCount → in2 m ≡ true → (is0 m ≡ true) × (lineAt cell m .tn ≡ 2)
-  shows2 m h e = (and-left (is0 m) _ (and-left (is2 m) _ e), eqb-true _ _ (and-right (is2 m) _ e))
-
-  shows4 : (m : ℕ) → m < lineCount → in4 m ≡ true → (is0 m ≡ true) × (lineAt cell m .tn ≡ 4)
-  shows4 m h e = (and-left (is0 m) _ (and-left (is2 m) _ (and-left (is4 m) _ e)), eqb-true _ _ (and-right (is4 m) _ e))
-
-  -- what is left stands in timeslot 6
-  shows6 : (m : ℕ) → m < lineCount → is6 m ≡ true → (is0 m ≡ true) × (lineAt cell m .tn ≡ 6)
-  shows6 m h e = (common, by-place (k .values) (placed .in-place m (k .values) (k .is-open) (k .is-common) .place) (k .timeslot) (allowed-tn first m (k .values) (sound .allowed m (k .values) (k .is-open))))
+  counted-from : (j m : ℕ) → m < lineCount → isFrom j m ≡ true → CountedFrom j m
+  counted-from j m h e =
+      record {
+        line = k;
+        at-least = subst (λ (t : ℕ). 2 * j ≤ t) (k .timeslot) (leb-true _ _ (and-right (isCommonLine (lineAt cell m)) _ e));
+        even = even-place (k .values) (placed .in-place m (k .values) (k .is-open) (k .is-common) .place);
+        below-8 = allowed-tn first m (k .values) (sound .allowed m (k .values) (k .is-open));
+      }
     where
-      common : is0 m ≡ true
-      common = and-left (is0 m) _ (and-left (is2 m) _ (and-left (is4 m) _ e))
-
       k : Counted m
-      k = counted m h common
+      k = counted m h (and-left (isCommonLine (lineAt cell m)) _ e)
 
-      n0 : lineAt cell m .tn ≡ 0 → ⊥
-      n0 = eqb-false _ _ (not-true _ (and-right (is0 m) _ (and-left (is2 m) _ (and-left (is4 m) _ e))))
+  -- one timeslot has one of them at most, and the others stand higher
+  from-next : (j : ℕ) → from j ≤ 1 + from (suc j)
+  from-next j =
+      let a = count-parted (isFrom j) here lineCount in
+      let b = count-one (λ m. isFrom j m && here m) lineCount one in
+      let c = count-mono (λ m. isFrom j m && not (here m)) (isFrom (suc j)) lineCount higher in
+      omega (arith, a, b, c)
+    where
+      here : ℕ → Bool
+      here m = eqb (lineAt cell m .tn) (2 * j)
 
-      n2 : lineAt cell m .tn ≡ 2 → ⊥
-      n2 = eqb-false _ _ (not-true _ (and-right (is2 m) _ (and-left (is4 m) _ e)))
+      one : (m n : ℕ) → m < lineCount → n < lineCount → (isFrom j m && here m) ≡ true → (isFrom j n && here n) ≡ true → m ≡ n
+      one m n hm hn em en =
+          let a = counted-from j m hm (and-left (isFrom j m) _ em) .line in
+          let b = counted-from j n hn (and-left (isFrom j n) _ en) .line in
+          one-each m n (a .values) (b .values) (a .is-open) (b .is-open) (a .is-common) (b .is-common)
+          (sym (a .timeslot) ∙ (eqb-true _ _ (and-right (isFrom j m) _ em) ∙ (sym (eqb-true _ _ (and-right (isFrom j n) _ en)) ∙ b .timeslot)))
 
-      n4 : lineAt cell m .tn ≡ 4 → ⊥
-      n4 = eqb-false _ _ (not-true _ (and-right (is4 m) _ e))
+      higher : (m : ℕ) → m < lineCount → (isFrom j m && not (here m)) ≡ true → isFrom (suc j) m ≡ true
+      higher m h e =
+          let w = counted-from j m h (and-left (isFrom j m) _ e) in
+          let t = w .line .timeslot in
+          let l = w .at-least in
+          let v = w .even in
+          let d = eqb-false (lineAt cell m .tn) (2 * j) (not-true _ (and-right (isFrom j m) _ e)) in
+          and-both (and-left (isCommonLine (lineAt cell m)) _ (and-left (isFrom j m) _ e)) (le-leb (2 * suc j) (lineAt cell m .tn) (omega (arith, t, l, v, d)))
 
-      by-place : (v : Values) → Place v → lineAt cell m .tn ≡ v .tn → v .tn < 8 → lineAt cell m .tn ≡ 6
-      by-place v (inl p) t l = absurd (n0 (t ∙ p .1))
-      by-place v (inr p) t l =
-          let a = p .1 in let b = p .2 in omega (arith, a, b, t, l, n0, n2, n4)
+  -- with none in timeslot 2 × j, there is none in a higher one
+  none-above : (j i : ℕ) → NoneIn (2 * j) → NoneIn (2 * (j + i))
+  none-above j zero f = subst NoneIn {x = 2 * j} (omega arith) f
+  none-above j (suc i) f = subst NoneIn {x = 2 * (j + i) + 2} (omega arith) (none-higher (2 * (j + i)) (none-above j i f))
 
-  le0 : countBelow in0 lineCount ≤ 1
-  le0 = at-most-one in0 0 shows0
+  none-from : (j : ℕ) → NoneIn (2 * j) → from j ≡ 0
+  none-from j f =
+      count-none (isFrom j) lineCount
+      (λ m h. refute (isFrom j m) (λ e. let w = counted-from j m h e in
+      none-above j (w .line .values .tn / 2 - j) f m (w .line .values) (w .line .is-open) (w .line .is-common) (let l = w .at-least in let v = w .even in omega (arith, l, v))))
 
-  le2 : countBelow in2 lineCount ≤ 1
-  le2 = at-most-one in2 2 shows2
-
-  le4 : countBelow in4 lineCount ≤ 1
-  le4 = at-most-one in4 4 shows4
-
-  le6 : countBelow is6 lineCount ≤ 1
-  le6 = at-most-one is6 6 shows6
+  -- K counts them all
+  all-from : commonLines cell ≤ from 0
+  all-from = count-mono (λ m. isCommonLine (lineAt cell m)) (isFrom 0) lineCount (λ m h e. and-both e (le-leb 0 (lineAt cell m .tn) (omega arith)))
 
   pub at-most-four : commonLines cell ≤ 4
-  at-most-four = omega (arith, parts, le0, le2, le4, le6)
+  at-most-four =
+      let none : from 4 ≡ 0 = count-none (isFrom 4) lineCount (λ m h. refute (isFrom 4 m) (λ e. let w = counted-from 4 m h e in let l = w .at-least in let b = w .below-8 in omega (arith, l, b))) in
+      omega (arith, all-from, from-next 0, from-next 1, from-next 2, from-next 3, none)
+
+  higher-in : (i j : ℕ) → i < from j → CommonIn (2 * (j + i))
+  higher-in zero j l = subst CommonIn {x = 2 * j} (omega arith) (⊎-elim (λ w. w) (λ f. absurd (let z = none-from j f in omega (arith, z, l))) (in-or-none (2 * j)))
+  higher-in (suc i) j l = subst CommonIn {x = 2 * (suc j + i)} (omega arith) (higher-in i (suc j) (let n = from-next j in omega (arith, n, l)))
 
   -- the first K of the timeslots 0, 2, 4 and 6 have a common line
   pub common-in : (j : ℕ) → j < commonLines cell → CommonIn (2 * j)
-  common-in j l = ⊎-elim (λ w. w) (λ f. absurd (go j l f)) (in-or-none (2 * j))
-    where
-      go : (j : ℕ) → j < commonLines cell → NoneIn (2 * j) → ⊥
-      go zero l f =
-          let a = none-at in0 0 shows0 f in
-          let b = none-at in2 2 shows2 (none-higher 0 f) in
-          let c = none-at in4 4 shows4 (none-higher 2 (none-higher 0 f)) in
-          let d = none-at is6 6 shows6 (none-higher 4 (none-higher 2 (none-higher 0 f))) in
-          omega (arith, parts, l, a, b, c, d)
-      go (suc zero) l f =
-          let b = none-at in2 2 shows2 f in
-          let c = none-at in4 4 shows4 (none-higher 2 f) in
-          let d = none-at is6 6 shows6 (none-higher 4 (none-higher 2 f)) in
-          omega (arith, parts, le0, l, b, c, d)
-      go (suc (suc zero)) l f =
-          let c = none-at in4 4 shows4 f in
-          let d = none-at is6 6 shows6 (none-higher 4 f) in
-          omega (arith, parts, le0, le2, l, c, d)
-      go (suc (suc (suc zero))) l f =
-          let d = none-at is6 6 shows6 f in
-          omega (arith, parts, le0, le2, le4, l, d)
-      go (suc (suc (suc (suc j)))) l f = omega (arith, at-most-four, l)
+  common-in j l = subst CommonIn {x = 2 * (0 + j)} (omega arith) (higher-in j 0 (let a = all-from in omega (arith, a, l)))
