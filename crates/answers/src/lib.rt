@@ -34,3 +34,9 @@ pub enum Refusal {
     // 16: paging with no common line open.
     NoCommonLine,
 }
+
+// The answer of a call whose result is elsewhere: in the cell or in the lent bytes.
+pub enum Answer {
+    Accepted,
+    Refused(Refusal),
+}

@@ -6,7 +6,7 @@ use mathlib.Core.Option.{Option, none, some}
 use lib.Dec.{ltb, eqb}
 use lib.ListN.{length, getD, set}
 use Rattle.answers.specs.Outcome.{Refused, Outcome, refused, accepted, Cause, cause, decide}
-use Rattle.answers.specs.Refusals.{refusalOf}
+use Rattle.answers.specs.Refusals.{refusalIn}
 use Rattle.answers.specs.Search.{anyBelow, least}
 use Rattle.hopping.specs.Masks.{contains, ones, oneAtOrAbove}
 use Rattle.hopping.specs.Allocation.{isAllocation}
@@ -14,8 +14,6 @@ use Rattle.hopping.specs.Clash.{Physical, clash}
 use Rattle.frame_map.specs.Combinations.{isCombination}
 use Rattle.cell.specs.declared.Cell.{Cell}
 use Rattle.cell.specs.declared.LineState.{LineState}
-use Rattle.cell.specs.declared.Answer.{Answer}
-use Rattle.cell.specs.declared.Answer.the-variants as Answer
 use Rattle.cell.specs.declared.Changed.{Changed}
 use Rattle.cell.specs.State.{Values, lineCount, ownerRoom, lineWith, free, closedLine, isOpen, lineAt, ownerAt, empty}
 
@@ -32,10 +30,6 @@ step before (refused r) = record { refusal = some r; cell = before }
 step before (accepted after) = record { refusal = none; cell = after }
 
 -- what the code's answer says
-abbrev pub refusalIn : Answer → Option Refused
-refusalIn Answer.Accepted = none
-refusalIn (Answer.Refused r) = some (refusalOf r)
-
 abbrev pub changed : Changed → Step
 changed r = record { refusal = refusalIn (r .answer); cell = r .cell }
 

@@ -11,6 +11,7 @@ mod subchannels;
 use air::on_air;
 use allocation::find;
 use allocation::padded;
+use answers::Answer;
 use answers::Refusal;
 use clash::in_the_way;
 use clock::Frame;
@@ -62,11 +63,6 @@ pub struct Cell {
     ag: u32,
     p: u32,
     lines: [LineState; 64],
-}
-
-pub enum Answer {
-    Accepted,
-    Refused(Refusal),
 }
 
 // A call's answer, and the cell after it.

@@ -1,8 +1,8 @@
 // The calls of the cell. A cell goes in and comes back by value.
 use crate::refusal_number;
+use answers::Answer;
 use answers::Refusal;
 use cell::Aired;
-use cell::Answer;
 use cell::Cell;
 use cell::Changed;
 use cell::Found;

@@ -7,7 +7,7 @@ use borrow.Author.Needs.{needs}
 use borrow.Author.Tests.{lt-ltb, le-ltb}
 use Rattle.answers.specs.Outcome.{Cause}
 use Rattle.answers.proofs.Decide.{refused-by, accepted-by}
-use Rattle.cell.specs.declared.Answer.the-variants.{Accepted}
+use Rattle.answers.specs.declared.Answer.the-variants.{Accepted}
 use Rattle.cell.specs.declared.LineState.{LineState}
 use Rattle.cell.specs.State.{isOpen, lineAt}
 use Rattle.cell.specs.Calls.{step, changed, withLine, needed, closeCauses, closeOf}

@@ -15,7 +15,7 @@ use Rattle.answers.proofs.Search.{any-least}
 use Rattle.answers.proofs.Tests.{le-not-ltb, lt-not-ltb}
 use Rattle.hopping.specs.Masks.{ones}
 use Rattle.hopping.proofs.Bits.{count-ones}
-use Rattle.cell.specs.declared.Answer.the-variants.{Accepted}
+use Rattle.answers.specs.declared.Answer.the-variants.{Accepted}
 use Rattle.cell.specs.declared.LineState.{LineState}
 use Rattle.cell.specs.State.{Values, lineWith, free, isOpen, lineAt}
 use Rattle.cell.specs.Calls.{Step, step, changed, withLine, openRange, noAllocation, noMaio, misplaced, inTheWay, openCauses, openOf}

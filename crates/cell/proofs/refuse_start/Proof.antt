@@ -5,7 +5,7 @@ use mathlib.Core.List.{List, [], _∷_}
 use lib.ListN.{getD, replicate}
 use borrow.Author.Needs.{needs}
 use Rattle.answers.specs.declared.Refusal.{Refusal}
-use Rattle.cell.specs.declared.Answer.the-variants.{Refused}
+use Rattle.answers.specs.declared.Answer.the-variants.{Refused}
 use Rattle.cell.specs.declared.Cell.{Cell}
 use Rattle.cell.specs.State.{tabulate, closedLine, empty}
 use Rattle.cell.specs.Calls.{Step, changed, refusedCell}

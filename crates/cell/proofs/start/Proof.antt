@@ -14,7 +14,7 @@ use Rattle.answers.proofs.Search.{any-least}
 use Rattle.answers.proofs.Tests.{or-left, or-right, or-none}
 use Rattle.hopping.specs.Allocation.{isAllocation}
 use Rattle.hopping.proofs.Apart.{at-most-64}
-use Rattle.cell.specs.declared.Answer.the-variants.{Accepted}
+use Rattle.answers.specs.declared.Answer.the-variants.{Accepted}
 use Rattle.cell.specs.declared.Cell.{Cell}
 use Rattle.cell.specs.State.{tabulate, closedLine, empty}
 use Rattle.cell.specs.Calls.{step, changed, lists, startCauses, refusedCell, startOf}

@@ -4,8 +4,8 @@ use mathlib.Core.Path.{_≡_, refl, sym, ap, _∙_}
 use borrow.Author.Needs.{needs}
 use Rattle.answers.specs.Refusals.{refusalOf}
 use Rattle.answers.specs.declared.Refusal.{Refusal}
-use Rattle.cell.specs.declared.Answer.{Answer}
-use Rattle.cell.specs.declared.Answer.the-variants.{Refused}
+use Rattle.answers.specs.declared.Answer.{Answer}
+use Rattle.answers.specs.declared.Answer.the-variants.{Refused}
 use Rattle.cell.specs.declared.Cell.{Cell}
 use Rattle.cell.specs.Calls.{changed}
 use Rattle.tdma.specs.declared.cells.TdmaChanged.{TdmaChanged}
