@@ -1,0 +1,13 @@
+pub mod Accepted
+pub mod Bits
+pub mod Calls
+pub mod Causes
+pub mod FieldRows
+pub mod FirstWrong
+pub mod FixedBits
+pub mod Front
+pub mod NormalCalls
+pub mod Printed
+pub mod Sizes
+pub mod Turns
+pub mod Undo
