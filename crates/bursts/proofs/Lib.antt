@@ -7,6 +7,7 @@ pub mod FirstWrong
 pub mod FixedBits
 pub mod Front
 pub mod NormalCalls
+pub mod Places
 pub mod Printed
 pub mod Sizes
 pub mod Turns

@@ -95,6 +95,14 @@ pub record Printed : Type 0 where
   pub mixed : value (from 3 136 (built (rowOf dummy) [])) ≡ 0xFB760A4E09101F1C5C5C574A3339E9F12F
   pub mixed-last : from 139 6 (built (rowOf dummy) []) ≡ 1 ∷ 0 ∷ 1 ∷ 0 ∷ 1 ∷ 0 ∷ []
 
+-- where the payload stands in every burst that is built, by the bit numbers of clause 5.2: "encrypted bits (e0 . e57)" in 3 to 60 and so on
+pub record Places : Type 0 where
+  pub normal : (tsc : ℕ) (payload : List ℕ) → length payload ≡ 116
+      → (from 3 58 (built (rowOf (normal tsc)) payload) ≡ from 0 58 payload) × (from 87 58 (built (rowOf (normal tsc)) payload) ≡ from 58 58 payload)
+  pub synchronization : (payload : List ℕ) → length payload ≡ 78
+      → (from 3 39 (built (rowOf synchronization) payload) ≡ from 0 39 payload) × (from 106 39 (built (rowOf synchronization) payload) ≡ from 39 39 payload)
+  pub access : (payload : List ℕ) → length payload ≡ 36 → from 49 36 (built (rowOf access) payload) ≡ from 0 36 payload
+
 -- the rows of the training sequence table of source document 001, clause 5.2.3, that are undamaged there
 pub record StandardRows : Type 0 where
   pub row-0 : training 0 ≡ 0 ∷ 0 ∷ 1 ∷ 0 ∷ 0 ∷ 1 ∷ 0 ∷ 1 ∷ 1 ∷ 1 ∷ 0 ∷ 0 ∷ 0 ∷ 0 ∷ 1 ∷ 0 ∷ 0 ∷ 0 ∷ 1 ∷ 0 ∷ 0 ∷ 1 ∷ 0 ∷ 1 ∷ 1 ∷ 1 ∷ []
