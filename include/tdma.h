@@ -3,19 +3,21 @@
  *
  * The library answers questions of the frame clock (which T1, T2 and T3 is frame FN), of frequency
  * hopping (which channel number does a line use in a frame) and of the frame map (which logical
- * channel stands in a frame); and it keeps the lines of a cell apart (which may be opened, who holds
+ * channel stands in a frame); it keeps the lines of a cell apart (which may be opened, who holds
  * which subchannel, what does a line send in a frame, which line is on a channel number, and when
- * and where is a mobile station paged). "Document 01" below is this project's scope, whose refusal
- * numbers these are.
+ * and where is a mobile station paged); and it builds bursts and takes them apart. "Document 01"
+ * below is this project's scope, whose refusal numbers these are.
  *
  * No input has to be checked first. Every function returns for every value of every parameter: the
  * answer's `refusal` is TDMA_ACCEPTED, or the lowest number of document 01 that applies, and then
- * every other number of the answer is 0. (But TDMA_CLASH comes with a line number, and a call that
- * changes a cell hands one back when it is refused, too.) The one thing asked of C is that a pointer
- * passed with a length can be read for that length.
+ * every other number of the answer is 0. (But TDMA_CLASH comes with a line number and TDMA_FIXED_BIT
+ * with a bit number, and a call that changes a cell hands one back when it is refused, too.) A
+ * refused call writes to no buffer. The one thing asked of C is that a pointer passed with a length
+ * can be read for that length, or written where it is not const, and that what is written overlaps
+ * nothing else that is passed.
  *
  * The functions keep no state, allocate nothing and can be called from any thread: a cell belongs to
- * the caller, goes in by value and comes back by value.
+ * the caller, goes in by value and comes back by value, and a buffer is lent for the call alone.
  * Build the library with `rt staticlib tdma` and link target/staticlib/libtdma.a (x86-64).
  */
 #ifndef TDMA_H
@@ -31,7 +33,7 @@ extern "C" {
 /* Frames are numbered 0 to TDMA_HYPERFRAME - 1, and then from 0 again. */
 #define TDMA_HYPERFRAME 2715648u
 
-/* Why a call was refused. The functions below give 1 to 14 and 16. */
+/* Why a call was refused. The functions below give 1 to 16. */
 enum tdma_refusal {
     TDMA_ACCEPTED = 0,
     TDMA_CELL_ALLOCATION = 1,   /* CA isn't 1 to 64 ARFCNs of 0 to 1023, strictly ascending */
@@ -333,6 +335,124 @@ typedef struct {
  */
 tdma_page_answer tdma_page(tdma_cell cell, const uint8_t *digits, size_t digits_length,
                            uint32_t frame);
+
+/*
+ * Bursts.
+ *
+ * A burst is an array of bits, one to a byte, 0 or 1: byte n is bit number n of clause 5.2. Its fixed
+ * bits are the tails, the training or synch. sequence and the extended tail; the payload is what the
+ * clause calls the encrypted bits e0, e1 and so on, one to a byte, too. Building puts a payload
+ * between the fixed bits of its kind of burst; taking apart checks the fixed bits and gives the
+ * payload. Each undoes the other. The frequency correction and the dummy burst have no payload, and
+ * are built only.
+ *
+ * For every function:
+ *   payload, payload_length: the payload, of its kind's exact length. Read by a build, written by a
+ *                            take.
+ *   burst, burst_length:     the burst, of its kind's exact length. Written by a build, read by a
+ *                            take.
+ * What is read must be readable, and what is written must be writable, for the length passed with
+ * it, whatever that length is, and the two must not overlap. Where a length is 0, pass any non-null
+ * pointer, and the call is refused. An accepted call writes every byte of its buffer, and a refused
+ * one writes none. What is read stays as it is.
+ *
+ *     uint8_t burst[TDMA_BURST], payload[TDMA_NORMAL_PAYLOAD];
+ *     tdma_burst_answer answer;
+ *
+ *     receive(burst);
+ *     answer = tdma_take_normal(5, burst, TDMA_BURST, payload, TDMA_NORMAL_PAYLOAD);
+ *     if (answer.refusal == TDMA_ACCEPTED)
+ *         decode(payload);
+ *     else if (answer.refusal == TDMA_FIXED_BIT)
+ *         report(answer.bit);
+ */
+
+/* The lengths, in bits and so in bytes: of a burst, of an access burst, and of the payloads. */
+#define TDMA_BURST 148
+#define TDMA_ACCESS_BURST 88
+#define TDMA_NORMAL_PAYLOAD 116
+#define TDMA_SYNCHRONIZATION_PAYLOAD 78
+#define TDMA_ACCESS_PAYLOAD 36
+
+typedef struct {
+    uint32_t refusal;
+    uint32_t bit; /* with TDMA_FIXED_BIT the lowest bit number at which a fixed bit differs, else 0 */
+} tdma_burst_answer;
+
+/*
+ * A normal burst from its payload.
+ *   tsc:     the training sequence code, 0 to 7.
+ *   payload: TDMA_NORMAL_PAYLOAD bytes, each 0 or 1; e0 to e57 stand before the training sequence,
+ *            e58 to e115 after it.
+ *   burst:   TDMA_BURST bytes, written.
+ * Refusals, in this order: TDMA_OUT_OF_RANGE (tsc), TDMA_MALFORMED (a length, a byte of the payload).
+ */
+tdma_burst_answer tdma_build_normal(uint32_t tsc, const uint8_t *payload, size_t payload_length,
+                                    uint8_t *burst, size_t burst_length);
+
+/*
+ * The payload of a normal burst.
+ *   tsc:     the training sequence code that the burst should have, 0 to 7.
+ *   burst:   TDMA_BURST bytes, each 0 or 1.
+ *   payload: TDMA_NORMAL_PAYLOAD bytes, written.
+ * Refusals, in this order: TDMA_OUT_OF_RANGE (tsc), TDMA_MALFORMED (a length, a byte of the burst),
+ * TDMA_FIXED_BIT (bit numbers 0 to 2, 61 to 86 and 145 to 147).
+ */
+tdma_burst_answer tdma_take_normal(uint32_t tsc, const uint8_t *burst, size_t burst_length,
+                                   uint8_t *payload, size_t payload_length);
+
+/*
+ * A synchronization burst from its payload.
+ *   payload: TDMA_SYNCHRONIZATION_PAYLOAD bytes, each 0 or 1; e0 to e38 stand before the training
+ *            sequence, e39 to e77 after it.
+ *   burst:   TDMA_BURST bytes, written.
+ * Refusal: TDMA_MALFORMED (a length, a byte of the payload).
+ */
+tdma_burst_answer tdma_build_synchronization(const uint8_t *payload, size_t payload_length,
+                                             uint8_t *burst, size_t burst_length);
+
+/*
+ * The payload of a synchronization burst.
+ *   burst:   TDMA_BURST bytes, each 0 or 1.
+ *   payload: TDMA_SYNCHRONIZATION_PAYLOAD bytes, written.
+ * Refusals, in this order: TDMA_MALFORMED (a length, a byte of the burst), TDMA_FIXED_BIT (bit
+ * numbers 0 to 2, 42 to 105 and 145 to 147).
+ */
+tdma_burst_answer tdma_take_synchronization(const uint8_t *burst, size_t burst_length,
+                                            uint8_t *payload, size_t payload_length);
+
+/*
+ * An access burst from its payload.
+ *   payload: TDMA_ACCESS_PAYLOAD bytes, each 0 or 1; they stand after the synch. sequence.
+ *   burst:   TDMA_ACCESS_BURST bytes, written.
+ * Refusal: TDMA_MALFORMED (a length, a byte of the payload).
+ */
+tdma_burst_answer tdma_build_access(const uint8_t *payload, size_t payload_length, uint8_t *burst,
+                                    size_t burst_length);
+
+/*
+ * The payload of an access burst.
+ *   burst:   TDMA_ACCESS_BURST bytes, each 0 or 1.
+ *   payload: TDMA_ACCESS_PAYLOAD bytes, written.
+ * Refusals, in this order: TDMA_MALFORMED (a length, a byte of the burst), TDMA_FIXED_BIT (bit
+ * numbers 0 to 48 and 85 to 87).
+ */
+tdma_burst_answer tdma_take_access(const uint8_t *burst, size_t burst_length, uint8_t *payload,
+                                   size_t payload_length);
+
+/*
+ * The frequency correction burst, which is all 0.
+ *   burst: TDMA_BURST bytes, written.
+ * Refusal: TDMA_MALFORMED (the length).
+ */
+tdma_burst_answer tdma_build_frequency_correction(uint8_t *burst, size_t burst_length);
+
+/*
+ * The dummy burst.
+ *   burst: TDMA_BURST bytes, written.
+ * Refusal: TDMA_MALFORMED (the length).
+ */
+tdma_burst_answer tdma_build_dummy(uint8_t *burst, size_t burst_length);
 
 #ifdef __cplusplus
 }

@@ -15,6 +15,7 @@ typedef char changed_size[sizeof(tdma_changed) == 8 + 4248 ? 1 : -1];
 typedef char line_answer_size[sizeof(tdma_line_answer) == 40 ? 1 : -1];
 typedef char who_answer_size[sizeof(tdma_who_answer) == 12 + 40 ? 1 : -1];
 typedef char page_answer_size[sizeof(tdma_page_answer) == 16 ? 1 : -1];
+typedef char burst_answer_size[sizeof(tdma_burst_answer) == 8 ? 1 : -1];
 
 static int wrong = 0;
 
@@ -212,6 +213,115 @@ static void page_calls(void)
     expect("page, both", both.refusal == TDMA_OUT_OF_RANGE && both.frame == 0);
 }
 
+/* Whether the bits from `bits` on, one to a byte, are those of the text. */
+static int has_bits(const uint8_t *bits, const char *text)
+{
+    size_t i;
+
+    for (i = 0; text[i] != 0; i++)
+        if (bits[i] != text[i] - '0')
+            return 0;
+    return 1;
+}
+
+/* Whether a call was refused with this number and bit. */
+static int is_answer(tdma_burst_answer answer, uint32_t refusal, uint32_t bit)
+{
+    return answer.refusal == refusal && answer.bit == bit;
+}
+
+/* Training sequence code 5; e57 alone is 1, which stands in bit number 60. */
+static void normal_burst_calls(void)
+{
+    uint8_t payload[TDMA_NORMAL_PAYLOAD] = {0}, taken[TDMA_NORMAL_PAYLOAD], burst[TDMA_BURST];
+    const size_t p = sizeof payload, b = sizeof burst;
+
+    payload[57] = 1;
+    memset(burst, 9, b);
+    memset(taken, 9, p);
+    expect("build normal, code",
+           is_answer(tdma_build_normal(8, payload, p, burst, b), TDMA_OUT_OF_RANGE, 0));
+    expect("build normal, length",
+           is_answer(tdma_build_normal(5, payload, p, burst, b - 1), TDMA_MALFORMED, 0));
+    expect("build normal, refused", burst[0] == 9 && burst[147] == 9);
+    expect("build normal", is_answer(tdma_build_normal(5, payload, p, burst, b), TDMA_ACCEPTED, 0));
+    expect("normal burst", has_bits(burst, "0000") && has_bits(burst + 144, "0000") &&
+                               has_bits(burst + 60, "1" "01001110101100000100111010" "0"));
+    expect("take normal", is_answer(tdma_take_normal(5, burst, b, taken, p), TDMA_ACCEPTED, 0));
+    expect("take normal, payload", memcmp(taken, payload, p) == 0);
+    burst[147] = burst[86] = 1;
+    expect("take normal, fixed bit",
+           is_answer(tdma_take_normal(5, burst, b, taken, p), TDMA_FIXED_BIT, 86));
+    burst[60] = 2;
+    expect("take normal, byte",
+           is_answer(tdma_take_normal(5, burst, b, taken, p), TDMA_MALFORMED, 0));
+    expect("take normal, code",
+           is_answer(tdma_take_normal(UINT32_MAX, burst, b, taken, p), TDMA_OUT_OF_RANGE, 0));
+    expect("take normal, refused", memcmp(taken, payload, p) == 0);
+}
+
+/* e38 and e39 are 1, which stand on both sides of the training sequence. */
+static void synchronization_burst_calls(void)
+{
+    uint8_t payload[TDMA_SYNCHRONIZATION_PAYLOAD] = {0}, taken[TDMA_SYNCHRONIZATION_PAYLOAD];
+    uint8_t burst[TDMA_BURST];
+    const size_t p = sizeof payload, b = sizeof burst;
+
+    payload[38] = payload[39] = 1;
+    expect("build synchronization",
+           is_answer(tdma_build_synchronization(payload, p, burst, b), TDMA_ACCEPTED, 0));
+    expect("synchronization burst", has_bits(burst, "0000") && has_bits(burst + 144, "0000") &&
+                                        has_bits(burst + 40, "01" "10111001") &&
+                                        has_bits(burst + 98, "00011011" "10"));
+    expect("build synchronization, no payload",
+           is_answer(tdma_build_synchronization(payload, 0, burst, b), TDMA_MALFORMED, 0));
+    expect("take synchronization",
+           is_answer(tdma_take_synchronization(burst, b, taken, p), TDMA_ACCEPTED, 0));
+    expect("take synchronization, payload", memcmp(taken, payload, p) == 0);
+    burst[145] = 1;
+    expect("take synchronization, fixed bit",
+           is_answer(tdma_take_synchronization(burst, b, taken, p), TDMA_FIXED_BIT, 145));
+}
+
+static void access_burst_calls(void)
+{
+    uint8_t payload[TDMA_ACCESS_PAYLOAD], taken[TDMA_ACCESS_PAYLOAD], burst[TDMA_ACCESS_BURST];
+    const size_t p = sizeof payload, b = sizeof burst;
+
+    memset(payload, 1, p);
+    expect("build access", is_answer(tdma_build_access(payload, p, burst, b), TDMA_ACCEPTED, 0));
+    expect("access burst",
+           has_bits(burst, "00111010" "01001011011111111001100110101010001111000" "1") &&
+               has_bits(burst + 84, "1000"));
+    expect("take access", is_answer(tdma_take_access(burst, b, taken, p), TDMA_ACCEPTED, 0));
+    expect("take access, payload", memcmp(taken, payload, p) == 0);
+    burst[0] = 1;
+    expect("take access, fixed bit",
+           is_answer(tdma_take_access(burst, b, taken, p), TDMA_FIXED_BIT, 0));
+    expect("take access, length",
+           is_answer(tdma_take_access(burst, b, taken, p - 1), TDMA_MALFORMED, 0));
+    payload[35] = 255;
+    expect("build access, byte",
+           is_answer(tdma_build_access(payload, p, burst, b), TDMA_MALFORMED, 0));
+}
+
+static void bursts_without_payload(void)
+{
+    uint8_t burst[TDMA_BURST], zeros[TDMA_BURST] = {0};
+    const size_t b = sizeof burst;
+
+    memset(burst, 9, b);
+    expect("build frequency correction",
+           is_answer(tdma_build_frequency_correction(burst, b), TDMA_ACCEPTED, 0));
+    expect("frequency correction burst", memcmp(burst, zeros, b) == 0);
+    expect("build frequency correction, length",
+           is_answer(tdma_build_frequency_correction(burst, 0), TDMA_MALFORMED, 0));
+    expect("build dummy", is_answer(tdma_build_dummy(burst, b), TDMA_ACCEPTED, 0));
+    expect("dummy burst", has_bits(burst, "000" "1111101101110110") &&
+                              has_bits(burst + 131, "00101111" "101010" "000"));
+    expect("build dummy, length", is_answer(tdma_build_dummy(burst, b - 1), TDMA_MALFORMED, 0));
+}
+
 int main(void)
 {
     clock_calls();
@@ -223,5 +333,9 @@ int main(void)
     line_calls();
     who_calls();
     page_calls();
+    normal_burst_calls();
+    synchronization_burst_calls();
+    access_burst_calls();
+    bursts_without_payload();
     return wrong;
 }

@@ -7,7 +7,8 @@ use Rattle.answers.specs.Outcome.{Refused, Outcome}
 use Rattle.tdma.specs.declared.cells.TdmaChanged.{TdmaChanged}
 use Rattle.tdma.specs.declared.cells.TdmaLine.{TdmaLine}
 use Rattle.tdma.specs.declared.cells.TdmaWho.{TdmaWho}
-use Rattle.tdma.specs.Cells.{refusalNumber, refusalValue, changedNumbers, lineNumbers}
+use Rattle.tdma.specs.Numbers.{refusalNumber, refusalValue}
+use Rattle.tdma.specs.Cells.{changedNumbers, lineNumbers}
 use Rattle.cell.specs.declared.Cell.{Cell}
 use Rattle.cell.specs.Calls.{Step}
 use Rattle.cell.specs.OnAir.{Slot, lineOf}

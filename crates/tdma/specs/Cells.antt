@@ -1,8 +1,7 @@
 -- What the answers of the cell's calls have in plain numbers. Assumes nothing.
 use Prim.Native.Nat.{ℕ}
-use mathlib.Core.List.{List, [], _∷_}
 use mathlib.Core.Option.{Option, none, some}
-use Rattle.answers.specs.Outcome.{Refused, Outcome, refused, accepted}
+use Rattle.answers.specs.Outcome.{Outcome, refused, accepted}
 use Rattle.frame_map.specs.Numbers.{Numbers, noNumbers, standingNumbers}
 use Rattle.cell.specs.Calls.{Step}
 use Rattle.cell.specs.OnAir.{Slot}
@@ -12,22 +11,7 @@ use Rattle.tdma.specs.declared.cells.TdmaChanged.{TdmaChanged}
 use Rattle.tdma.specs.declared.cells.TdmaLine.{TdmaLine}
 use Rattle.tdma.specs.declared.cells.TdmaWho.{TdmaWho}
 use Rattle.tdma.specs.declared.cells.TdmaPage.{TdmaPage}
-
--- the value that comes with 9 (the line in the way) and 15; 0 for a refusal that comes alone
-abbrev pub firstOf : List ℕ → ℕ
-firstOf [] = 0
-firstOf (x ∷ xs) = x
-
-abbrev pub valueOf : Refused → ℕ
-valueOf r = firstOf (r .values)
-
-abbrev pub refusalNumber : Option Refused → ℕ
-refusalNumber none = 0
-refusalNumber (some r) = r .number
-
-abbrev pub refusalValue : Option Refused → ℕ
-refusalValue none = 0
-refusalValue (some r) = valueOf r
+use Rattle.tdma.specs.Numbers.{refusalNumber, refusalValue}
 
 -- the refusal, 0 where the call is accepted, and the cell after the call
 abbrev pub changedNumbers : Step → TdmaChanged

@@ -1,9 +1,9 @@
 -- What each answer of the C interface has: the outcome of the call in plain numbers. Where it is refused, `refusal` is document 01's number
 -- and all else is 0; where it is accepted, `refusal` is 0. Assumes nothing.
 use Prim.Native.Nat.{ℕ}
-use mathlib.Core.List.{List}
+use mathlib.Core.List.{List, [], _∷_}
 use mathlib.Core.Option.{Option, none, some}
-use Rattle.answers.specs.Outcome.{Outcome, refused, accepted}
+use Rattle.answers.specs.Outcome.{Refused, Outcome, refused, accepted}
 use Rattle.clock.specs.declared.Frame.{Frame}
 use Rattle.clock.specs.Clock.{primeOf}
 use Rattle.frame_map.specs.Channels.{Standing}
@@ -13,6 +13,22 @@ use Rattle.tdma.specs.declared.TdmaJoin.{TdmaJoin}
 use Rattle.tdma.specs.declared.TdmaPosition.{TdmaPosition}
 use Rattle.tdma.specs.declared.TdmaHop.{TdmaHop}
 use Rattle.tdma.specs.declared.TdmaMap.{TdmaMap}
+
+-- the value that comes with 9 (the line in the way) and 15; 0 for a refusal that comes alone
+abbrev pub firstOf : List ℕ → ℕ
+firstOf [] = 0
+firstOf (x ∷ xs) = x
+
+abbrev pub valueOf : Refused → ℕ
+valueOf r = firstOf (r .values)
+
+abbrev pub refusalNumber : Option Refused → ℕ
+refusalNumber none = 0
+refusalNumber (some r) = r .number
+
+abbrev pub refusalValue : Option Refused → ℕ
+refusalValue none = 0
+refusalValue (some r) = valueOf r
 
 -- T3' where it is given: `given` is 1
 abbrev pub withPrime : Frame → Option ℕ → TdmaSplit

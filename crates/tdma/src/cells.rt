@@ -1,7 +1,7 @@
 // The calls of the cell. A cell goes in and comes back by value.
 use crate::refusal_number;
+use crate::refusal_value;
 use answers::Answer;
-use answers::Refusal;
 use cell::Aired;
 use cell::Cell;
 use cell::Changed;
@@ -15,7 +15,6 @@ use frame_map::Kind;
 use paging::Paged;
 ghost use mathlib.Core.Path.{_≡_};
 ghost use Rattle.answers.specs.Outcome.{accepted};
-ghost use Rattle.answers.specs.Refusals.{refusalOf};
 ghost use Rattle.frame_map.specs.Channels.{kindNumber};
 ghost use Rattle.frame_map.specs.Map.{inBlocks};
 ghost use Rattle.frame_map.specs.Numbers.{noNumbers, standingNumbers};
@@ -23,7 +22,7 @@ ghost use Rattle.cell.specs.Calls.{startOf, openOf, closeOf, seizeOf, releaseOf
 ghost use Rattle.cell.specs.OnAir.{lineOf, slotIn};
 ghost use Rattle.cell.specs.Paging.{pageOf};
 ghost use Rattle.cell.specs.Who.{whoOf};
-ghost use Rattle.tdma.specs.Cells.{valueOf, changedNumbers, lineFields, lineNumbers, matchNumbers, nobody, whoNumbers, pageNumbers};
+ghost use Rattle.tdma.specs.Cells.{changedNumbers, lineFields, lineNumbers, matchNumbers, nobody, whoNumbers, pageNumbers};
 
 // The refusal, for 9 the line in the way, and the cell after the call.
 #[repr(C)]
@@ -64,30 +63,6 @@ pub struct TdmaPage {
     pub tn: u32,
     pub block: u32,
     pub frame: u32,
-}
-
-// The value that comes with a refusal, 0 if it comes alone.
-fn refusal_value(e: Refusal) -> u32
-    ensures { λ r. ⌜ r ≡ valueOf (refusalOf e) ⌝ }
-{
-    match e {
-        Refusal::CellAllocation => 0,
-        Refusal::CellParameter => 0,
-        Refusal::OutOfRange => 0,
-        Refusal::MobileAllocation => 0,
-        Refusal::Maio => 0,
-        Refusal::LineOpen => 0,
-        Refusal::LineClosed => 0,
-        Refusal::CommonChannel => 0,
-        Refusal::Clash { line } => line,
-        Refusal::NoSubchannel => 0,
-        Refusal::SubchannelHeld => 0,
-        Refusal::NotHolder => 0,
-        Refusal::LineHeld => 0,
-        Refusal::Malformed => 0,
-        Refusal::FixedBit { bit } => bit,
-        Refusal::NoCommonLine => 0,
-    }
 }
 
 fn changed_numbers(c: Changed) -> TdmaChanged

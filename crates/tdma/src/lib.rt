@@ -1,6 +1,7 @@
 // The C interface, include/tdma.h: plain numbers, slices and cells in, structs of numbers out. `refusal` is 0 for an accepted call, else document
 // 01's number, and then every other number is 0 (but for the line of 9). specs/Numbers.antt says so for each answer. The calls of the cell are in
-// cells.rt.
+// cells.rt, the bursts in buffers.rt.
+pub mod buffers;
 pub mod cells;
 
 use answers::Refusal;
@@ -17,7 +18,7 @@ ghost use Rattle.answers.specs.Refusals.{refusalOf};
 ghost use Rattle.clock.specs.Clock.{splitOf, joinOf};
 ghost use Rattle.hopping.specs.Hopping.{positionOf, hopOf};
 ghost use Rattle.frame_map.specs.Map.{mapOf};
-ghost use Rattle.tdma.specs.Numbers.{splitNumbers, joinNumbers, positionNumbers, hopNumbers, mapNumbers};
+ghost use Rattle.tdma.specs.Numbers.{valueOf, splitNumbers, joinNumbers, positionNumbers, hopNumbers, mapNumbers};
 
 // T1, T2, T3, and T3' where `given` is 1.
 #[repr(C)]
@@ -82,6 +83,30 @@ fn refusal_number(e: Refusal) -> u32
         Refusal::Malformed => 14,
         Refusal::FixedBit { bit: _ } => 15,
         Refusal::NoCommonLine => 16,
+    }
+}
+
+// The value that comes with a refusal, 0 if it comes alone.
+fn refusal_value(e: Refusal) -> u32
+    ensures { λ r. ⌜ r ≡ valueOf (refusalOf e) ⌝ }
+{
+    match e {
+        Refusal::CellAllocation => 0,
+        Refusal::CellParameter => 0,
+        Refusal::OutOfRange => 0,
+        Refusal::MobileAllocation => 0,
+        Refusal::Maio => 0,
+        Refusal::LineOpen => 0,
+        Refusal::LineClosed => 0,
+        Refusal::CommonChannel => 0,
+        Refusal::Clash { line } => line,
+        Refusal::NoSubchannel => 0,
+        Refusal::SubchannelHeld => 0,
+        Refusal::NotHolder => 0,
+        Refusal::LineHeld => 0,
+        Refusal::Malformed => 0,
+        Refusal::FixedBit { bit } => bit,
+        Refusal::NoCommonLine => 0,
     }
 }
 

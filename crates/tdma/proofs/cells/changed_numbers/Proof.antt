@@ -9,7 +9,8 @@ use Rattle.answers.specs.declared.Answer.the-variants.{Refused}
 use Rattle.cell.specs.declared.Cell.{Cell}
 use Rattle.cell.specs.Calls.{changed}
 use Rattle.tdma.specs.declared.cells.TdmaChanged.{TdmaChanged}
-use Rattle.tdma.specs.Cells.{valueOf, changedNumbers}
+use Rattle.tdma.specs.Numbers.{valueOf}
+use Rattle.tdma.specs.Cells.{changedNumbers}
 use Rattle.tdma.proofs.cells.changed_numbers.Statement.{statement}
 use Rattle.tdma.proofs.cells.changed_numbers.Tie as tie
 
