@@ -3,9 +3,11 @@
 //! `clock`, `hopping`, `frame_map`, `cell` and `paging` are written from document 01 alone and by
 //! other means than the library: counters that step from frame to frame, lists of positions, tables
 //! of frames that are painted block by block, a book of the open lines, a walk to the frame where a
-//! paging block begins. `library` is the library under test as C sees it. `random` draws the inputs,
-//! and `draw` whole calls on a cell, which `calls` makes on both.
+//! paging block begins. `bursts` has the layouts of clause 5.2 written out bit by bit. `library` is
+//! the library under test as C sees it. `random` draws the inputs, and `draw` whole calls on a cell,
+//! which `calls` makes on both.
 
+pub mod bursts;
 pub mod calls;
 pub mod cell;
 pub mod clock;
@@ -34,6 +36,7 @@ pub const SUBCHANNEL_HELD: u32 = 11;
 pub const NOT_HOLDER: u32 = 12;
 pub const LINE_HELD: u32 = 13;
 pub const MALFORMED: u32 = 14;
+pub const FIXED_BIT: u32 = 15;
 pub const NO_COMMON_LINE: u32 = 16;
 
 /// Refuses with the lowest number whose condition holds, in whatever order they are listed.

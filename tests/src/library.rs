@@ -1,6 +1,7 @@
 //! The library under test as include/tdma.h declares it, and what an answer of the second
 //! implementation is in its numbers.
 
+use crate::bursts::{self, Call};
 use crate::cell::{Found, OnAir, Values};
 use crate::clock::Counters;
 use crate::frame_map::Burst;
@@ -25,6 +26,7 @@ answers! {
         refusal, arfcn, owner, channel, subchannel, blocks, block, place, second_block, second_place
     }
     PageAnswer: u32 { refusal, tn, block, frame }
+    BurstAnswer: u32 { refusal, bit }
 }
 
 #[repr(C)]
@@ -83,6 +85,46 @@ extern "C" {
     fn tdma_line(cell: Cell, line: u32, frame: u32, direction: u32) -> LineAnswer;
     fn tdma_who(cell: Cell, tn: u32, arfcn: u32, frame: u32, direction: u32) -> WhoAnswer;
     fn tdma_page(cell: Cell, digits: *const u8, digits_length: usize, frame: u32) -> PageAnswer;
+    fn tdma_build_normal(
+        tsc: u32,
+        payload: *const u8,
+        payload_length: usize,
+        burst: *mut u8,
+        burst_length: usize,
+    ) -> BurstAnswer;
+    fn tdma_take_normal(
+        tsc: u32,
+        burst: *const u8,
+        burst_length: usize,
+        payload: *mut u8,
+        payload_length: usize,
+    ) -> BurstAnswer;
+    fn tdma_build_synchronization(
+        payload: *const u8,
+        payload_length: usize,
+        burst: *mut u8,
+        burst_length: usize,
+    ) -> BurstAnswer;
+    fn tdma_take_synchronization(
+        burst: *const u8,
+        burst_length: usize,
+        payload: *mut u8,
+        payload_length: usize,
+    ) -> BurstAnswer;
+    fn tdma_build_access(
+        payload: *const u8,
+        payload_length: usize,
+        burst: *mut u8,
+        burst_length: usize,
+    ) -> BurstAnswer;
+    fn tdma_take_access(
+        burst: *const u8,
+        burst_length: usize,
+        payload: *mut u8,
+        payload_length: usize,
+    ) -> BurstAnswer;
+    fn tdma_build_frequency_correction(burst: *mut u8, burst_length: usize) -> BurstAnswer;
+    fn tdma_build_dummy(burst: *mut u8, burst_length: usize) -> BurstAnswer;
 }
 
 // The library takes every value of a number and of a cell, so these calls are safe; a slice is
@@ -162,6 +204,35 @@ pub fn who(cell: &Cell, tn: u32, arfcn: u32, frame: u32, direction: u32) -> WhoA
 #[inline]
 pub fn page(cell: &Cell, digits: &[u8], frame: u32) -> PageAnswer {
     unsafe { tdma_page(*cell, digits.as_ptr(), digits.len(), frame) }
+}
+
+/// A call on bursts, with the buffer that it reads and the one that it is lent as C passes them. The
+/// calls that read nothing leave `read` aside.
+///
+/// # Safety
+/// `read` is readable and `lent` writable for its length, they don't overlap, and neither is null.
+#[inline]
+pub unsafe fn burst_in_place(
+    call: Call,
+    (read, length): (*const u8, usize),
+    (lent, room): (*mut u8, usize),
+) -> BurstAnswer {
+    match call {
+        Call::BuildNormal(tsc) => tdma_build_normal(tsc, read, length, lent, room),
+        Call::TakeNormal(tsc) => tdma_take_normal(tsc, read, length, lent, room),
+        Call::BuildSynchronization => tdma_build_synchronization(read, length, lent, room),
+        Call::TakeSynchronization => tdma_take_synchronization(read, length, lent, room),
+        Call::BuildAccess => tdma_build_access(read, length, lent, room),
+        Call::TakeAccess => tdma_take_access(read, length, lent, room),
+        Call::BuildFrequencyCorrection => tdma_build_frequency_correction(lent, room),
+        Call::BuildDummy => tdma_build_dummy(lent, room),
+    }
+}
+
+#[inline]
+pub fn burst(call: Call, read: &[u8], lent: &mut [u8]) -> BurstAnswer {
+    let read = (read.as_ptr(), read.len());
+    unsafe { burst_in_place(call, read, (lent.as_mut_ptr(), lent.len())) }
 }
 
 impl From<Answer<Counters>> for SplitAnswer {
@@ -296,6 +367,18 @@ impl From<Answer<Paged>> for PageAnswer {
                 block,
                 frame,
             },
+        }
+    }
+}
+
+impl From<Result<(), bursts::Refused>> for BurstAnswer {
+    fn from(answer: Result<(), bursts::Refused>) -> Self {
+        match answer {
+            Err(bursts::Refused { number, bit }) => BurstAnswer {
+                refusal: number,
+                bit,
+            },
+            Ok(()) => BurstAnswer::default(),
         }
     }
 }

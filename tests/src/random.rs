@@ -27,6 +27,19 @@ impl Random {
         values[self.below(values.len() as u32) as usize]
     }
 
+    pub fn bytes(&mut self, count: usize) -> Vec<u8> {
+        let words = count.div_ceil(8);
+        let mut bytes: Vec<u8> = (0..words).flat_map(|_| self.word().to_le_bytes()).collect();
+        bytes.truncate(count);
+        bytes
+    }
+
+    /// Bits, one to a byte.
+    pub fn bits(&mut self, count: usize) -> Vec<u8> {
+        let bytes = self.bytes(count).into_iter();
+        bytes.map(|byte| byte & 1).collect()
+    }
+
     /// `count` different numbers below `bound`, ascending.
     pub fn choose(&mut self, count: u32, bound: u32) -> Vec<u32> {
         let mut chosen = Vec::with_capacity(count as usize);

@@ -14,12 +14,24 @@
 //! - RNTABLE (typed in src/hopping.rs): whole in 000; in 001 two commas of the last row are dots.
 //! - Table 5, the RACH of a combined channel: whole in 000, missing in 001.
 //! - Figures 7 and 8 (drawings of the multiframes) are lost in both, and skipped.
+//! - The training sequences: in 001 code 3 has a bit too many, in 000 code 0; code 6 breaks off in
+//!   both. The other rows are whole.
+//! - The synch. sequence of the access burst, 41 bits: 001 has lost a pair "1, 0", 000 has a 1 and a
+//!   pair "1, 0" too many.
+//! - The extended training sequence of the synchronization burst is lost in 000; in 001 it is wrong
+//!   from its 21st bit on. It is skipped.
+//! - The mixed bits of the dummy burst are lost in both; A.2.1.2 has those in place of a training
+//!   sequence.
+//! - The fields of the synchronization burst: whole in 001, where they are typed from; in 000 digits
+//!   are lost.
 
+use tdma_tests::bursts::Call::{self, *};
 use tdma_tests::clock::HYPERFRAME;
 use tdma_tests::frame_map::Channel::{self, *};
 use tdma_tests::frame_map::FRAMES;
 use tdma_tests::hopping::{index, RNTABLE};
-use tdma_tests::library;
+use tdma_tests::library::{self, BurstAnswer};
+use tdma_tests::FIXED_BIT;
 
 const DOWNLINK: u32 = 0;
 const UPLINK: u32 = 1;
@@ -291,5 +303,204 @@ fn sdcch_8_and_its_sacch() {
     ];
     for tn in 0..8 {
         dedicated(7, tn, &sdcch, &sacch);
+    }
+}
+
+/// The bits of a row as it is printed.
+fn printed(row: &str) -> Vec<u8> {
+    let bits = row.trim_matches(['(', ')']).split(',');
+    bits.map(|bit| bit.trim().parse().unwrap()).collect()
+}
+
+/// A burst of so many bits that the library builds from this payload.
+fn built(build: Call, payload: &[u8], bits: usize) -> Vec<u8> {
+    let mut burst = vec![9; bits];
+    let answer = library::burst(build, payload, &mut burst);
+    assert_eq!(answer, BurstAnswer::default(), "{build:?}");
+    burst
+}
+
+/// The training sequence that the library builds a normal burst with.
+fn training(tsc: u32) -> Vec<u8> {
+    built(BuildNormal(tsc), &[1; 116], 148)[61..=86].to_vec()
+}
+
+/// The synch. sequence that the library builds an access burst with.
+fn synch_sequence() -> Vec<u8> {
+    built(BuildAccess, &[1; 36], 88)[8..=48].to_vec()
+}
+
+/// All that is left of a row if some adjacent bits, as these, are taken out of it.
+fn without(row: &[u8], bits: &[u8]) -> Vec<Vec<u8>> {
+    let starts = (0..row.len()).filter(|&at| row[at..].starts_with(bits));
+    let rest = |at: usize| [&row[..at], &row[at + bits.len()..]].concat();
+    starts.map(rest).collect()
+}
+
+/// As 001 prints them, and code 3 as 000 does.
+#[test]
+fn training_sequences() {
+    let rows = [
+        (0, "(0,0,1,0,0,1,0,1,1,1,0,0,0,0,1,0,0,0,1,0,0,1,0,1,1,1)"),
+        (1, "(0,0,1,0,1,1,0,1,1,1,0,1,1,1,1,0,0,0,1,0,1,1,0,1,1,1)"),
+        (2, "(0,1,0,0,0,0,1,1,1,0,1,1,1,0,1,0,0,1,0,0,0,0,1,1,1,0)"),
+        (3, "(0,1,0,0,0,1,1,1,1,0,1,1,0,1,0,0,0,1,0,0,0,1,1,1,1,0)"),
+        (4, "(0,0,0,1,1,0,1,0,1,1,1,0,0,1,0,0,0,0,0,1,1,0,1,0,1,1)"),
+        (5, "(0,1,0,0,1,1,1,0,1,0,1,1,0,0,0,0,0,1,0,0,1,1,1,0,1,0)"),
+        (7, "(1,1,1,0,1,1,1,1,0,0,0,1,0,0,1,0,1,1,1,0,1,1,1,1,0,0)"),
+    ];
+    for (tsc, row) in rows {
+        assert_eq!(training(tsc), printed(row), "code {tsc}");
+    }
+}
+
+/// Code 3 of 001 and code 0 of 000 have a 1 too many; code 6 has its first 20 bits in both.
+#[test]
+fn damaged_training_sequences() {
+    let third = "(0,1,0,0,0,1,1,1,1,0,1,1,0,1,0,0,0,1,0,0,0,1,1,1,1,1,0)";
+    let first = "(0,0,1,0,0,1,0,1,1,1,0,0,0,0,1,0,0,0,1,0,0,1,0,1,1,1,1)";
+    for (tsc, row) in [(3, third), (0, first)] {
+        let row = printed(row);
+        assert_eq!(row.len(), 27);
+        assert!(without(&row, &[1]).contains(&training(tsc)), "code {tsc}");
+    }
+    let sixth = printed("(1,0,1,0,0,1,1,1,1,1,0,1,1,0,0,0,1,0,1,0");
+    assert_eq!((sixth.len(), &training(6)[..20]), (20, &sixth[..]));
+}
+
+/// 001 has the synch. sequence with one pair "1, 0" left out; 000 has it with a 1 and such a pair put
+/// in.
+#[test]
+fn damaged_synch_sequence() {
+    let row_001 = printed(
+        "(0, 1, 0, 0, 1, 0, 1, 1, 0, 1, 1, 1, 1, 1, 1, 1, 1, 0, 0, 1, 1, 0, 0, 1, 1, 0, 1, 0, 1, \
+         0, 0, 0, 1, 1, 1, 1, 0, 0, 0)",
+    );
+    assert_eq!(row_001.len(), 39);
+    assert!(without(&synch_sequence(), &[1, 0]).contains(&row_001));
+    let row_000 = printed(
+        "(0, 1, 0, 0, 1, 0, 1, 1, 0, 1, 1, 1, 1, 1, 1, 1, 1, 1, 0, 0, 1, 1, 0, 0, 1, 1, 0, 1, 0, \
+         1, 0, 1, 0, 1, 0, 0, 0, 1, 1, 1, 1, 0, 0, 0)",
+    );
+    assert_eq!(row_000.len(), 44);
+    let pair_out = without(&row_000, &[1, 0]);
+    let mut both_out = pair_out.iter().flat_map(|row| without(row, &[1]));
+    assert!(both_out.any(|row| row == synch_sequence()));
+}
+
+/// The "C0 filling training sequence" of A.2.1.2 stands in the middle of the dummy burst.
+#[test]
+fn middle_of_the_dummy_burst() {
+    let row = "(0,1,1,1,0,0,0,1,0,1,1,1,0,0,0,1,0,1,1,1,0,0,0,1,0,1)";
+    let dummy = built(BuildDummy, &[], 148);
+    assert_eq!(dummy[61..=86], printed(row));
+}
+
+#[test]
+fn tail_bits() {
+    let four = [
+        (BuildNormal(0), 116),
+        (BuildFrequencyCorrection, 0),
+        (BuildSynchronization, 78),
+        (BuildDummy, 0),
+    ];
+    for (build, payload) in four {
+        let burst = built(build, &vec![1; payload], 148);
+        assert_eq!(burst[0..=2], printed("(0, 0, 0)"), "{build:?}");
+        assert_eq!(burst[145..=147], printed("(0, 0, 0)"), "{build:?}");
+    }
+    let access = built(BuildAccess, &[1; 36], 88);
+    let extended = printed("(0, 0, 1, 1, 1, 0, 1, 0)");
+    assert_eq!(access[0..=7], extended);
+    assert_eq!(access[85..=87], printed("(0, 0, 0)"));
+    let frequency_correction = built(BuildFrequencyCorrection, &[], 148);
+    assert_eq!(frequency_correction[3..=144], [0; 142]);
+}
+
+/// A line of a table of fields: the first and the last bit number, the length, and the first and the
+/// last of the encrypted bits if it has such.
+type Field = (usize, usize, usize, Option<(usize, usize)>);
+
+/// The fields follow each other, each as long as is printed. Gives the bits and the encrypted bits.
+fn lengths(fields: &[Field]) -> (usize, usize) {
+    let (mut bits, mut encrypted) = (0, 0);
+    for &(first, last, length, e) in fields {
+        assert_eq!((first, last + 1), (bits, bits + length));
+        bits += length;
+        if let Some((first, last)) = e {
+            assert_eq!((first, last + 1), (encrypted, encrypted + length));
+            encrypted += length;
+        }
+    }
+    (bits, encrypted)
+}
+
+/// A burst and one with the bit at `at` flipped: an encrypted bit comes out at its number alone, and
+/// any other is refused.
+fn flip(take: Call, burst: &[u8], payload: &[u8], at: usize, e: Option<usize>) {
+    let (mut burst, mut taken) = (burst.to_vec(), vec![9; payload.len()]);
+    burst[at] ^= 1;
+    let answer = library::burst(take, &burst, &mut taken);
+    let mut expected = payload.to_vec();
+    if let Some(e) = e {
+        expected[e] ^= 1;
+        assert_eq!((answer.refusal, taken), (0, expected), "{take:?}, bit {at}");
+    } else {
+        assert_eq!(answer.refusal, FIXED_BIT, "{take:?}, bit {at}");
+        assert_eq!(answer.bit, at as u32, "{take:?}");
+    }
+}
+
+/// Checks a table of fields, bit by bit.
+fn check_fields(build: Call, take: Call, fields: &[Field]) {
+    let (bits, encrypted) = lengths(fields);
+    for payload in [vec![0; encrypted], vec![1; encrypted]] {
+        let burst = built(build, &payload, bits);
+        for &(first, last, _, e) in fields {
+            for at in first..=last {
+                let number = e.map(|(e, _)| e + at - first);
+                flip(take, &burst, &payload, at, number);
+            }
+        }
+    }
+}
+
+#[test]
+fn fields_of_bursts_with_a_payload() {
+    let normal = [
+        (0, 2, 3, None),
+        (3, 60, 58, Some((0, 57))),
+        (61, 86, 26, None),
+        (87, 144, 58, Some((58, 115))),
+        (145, 147, 3, None),
+    ];
+    let synchronization = [
+        (0, 2, 3, None),
+        (3, 41, 39, Some((0, 38))),
+        (42, 105, 64, None),
+        (106, 144, 39, Some((39, 77))),
+        (145, 147, 3, None),
+    ];
+    let access = [
+        (0, 7, 8, None),
+        (8, 48, 41, None),
+        (49, 84, 36, Some((0, 35))),
+        (85, 87, 3, None),
+    ];
+    for tsc in 0..8 {
+        check_fields(BuildNormal(tsc), TakeNormal(tsc), &normal);
+    }
+    check_fields(BuildSynchronization, TakeSynchronization, &synchronization);
+    check_fields(BuildAccess, TakeAccess, &access);
+}
+
+/// Frequency correction and dummy: the tables differ in the name of the middle field alone.
+#[test]
+fn fields_of_bursts_without_a_payload() {
+    let fields = [(0, 2, 3, None), (3, 144, 142, None), (145, 147, 3, None)];
+    let (bits, encrypted) = lengths(&fields);
+    for build in [BuildFrequencyCorrection, BuildDummy] {
+        let burst = built(build, &vec![1; encrypted], bits);
+        assert!(burst.iter().all(|&bit| bit <= 1));
     }
 }
