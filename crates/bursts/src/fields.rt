@@ -46,18 +46,17 @@ fn bit(word: u64, k: usize) -> u8
     ((word >> k) % 2) as u8
 }
 
-// Some byte is above 1.
+// Some byte is above 1. All are looked at, with no branch on what they are.
 pub(crate) fn byte_above_one(s: &[u8]) -> bool
     ensures { λ r. ⌜ r ≡ byteAboveOne (now (s .entry)) ⌝ }
 {
+    let mut above = false;
     let mut k = 0;
     while k < s.len() {
-        if s[k] > 1 {
-            return true;
-        }
+        above = above | (s[k] > 1);
         k += 1;
     }
-    false
+    above
 }
 
 pub(crate) fn copy(from: &[u8], to: &mut [u8])

@@ -1,42 +1,38 @@
--- `fields::byte_above_one` meets its contract: the loop has seen every byte below k to be at most 1. Assumes nothing.
-use Prim.Native.Nat.{ℕ, _-_, _<_, _≤_}
-use mathlib.Core.Path.{_≡_, sym}
-use mathlib.Core.Bool.{true, false}
+-- `fields::byte_above_one` meets its contract: after k turns `above` says whether a byte below k is above 1. Assumes nothing.
+use Prim.Native.Nat.{ℕ, _+_, _-_, _≤_}
+use mathlib.Core.Path.{_≡_, refl, ap, _∙_}
+use mathlib.Core.Bool.{Bool, _||_}
 use mathlib.Core.List.{List}
+use native.Mathlib.Numerals.{add-one}
 use native.Mathlib.Omega.{arith}
 use lib.Dec.{ltb}
 use lib.ListN.{length, getD}
-use borrow.Author.Count.{below-none, below-more}
 use borrow.Author.Needs.{needs}
-use borrow.Author.Tests.{lt-ltb, le-ltb}
-use Rattle.answers.proofs.Search.{any-at, any-none}
+use Rattle.answers.specs.Search.{anyBelow}
 use Rattle.bursts.specs.Bursts.{byteAboveOne}
 use Rattle.bursts.proofs.fields.byte_above_one.Statement.{statement}
 use Rattle.bursts.proofs.fields.byte_above_one.Tie as tie
 
-module _ (s : List ℕ) where
-  one-above : (k : ℕ) → k < length s → 1 < getD s k 0 → true ≡ byteAboveOne s
-  unfolding byteAboveOne
-  one-above k h e = sym (any-at (λ i. ltb 1 (getD s i 0)) (length s) k h (lt-ltb 1 (getD s k 0) e))
+-- the bytes below k
+abbrev aboveBelow : List ℕ → ℕ → Bool
+aboveBelow s k = anyBelow (λ i. ltb 1 (getD s i 0)) k
 
-  none-above : ((k : ℕ) → k < length s → getD s k 0 ≤ 1) → false ≡ byteAboveOne s
-  unfolding byteAboveOne
-  none-above f = sym (any-none (λ i. ltb 1 (getD s i 0)) (length s) (λ k h. le-ltb 1 (getD s k 0) (f k h)))
+one-more : (s : List ℕ) (k : ℕ) (b : Bool) → b ≡ aboveBelow s k → (b || ltb 1 (getD s k 0)) ≡ aboveBelow s (k + 1)
+unfolding anyBelow
+one-more s k b e = rw (add-one k) (ap (λ (t : Bool). t || ltb 1 (getD s k 0)) e)
 
 abbrev Inv-loop : tie.InvT-loop
-Inv-loop s k₀ k = (k ≤ length s) × ((i : ℕ) → i < k → getD s i 0 ≤ 1)
+Inv-loop s above₀ k₀ above k = (k ≤ length s) × (above ≡ aboveBelow s k)
 
 abbrev μ-loop : tie.MeasureT-loop
-μ-loop s k₀ k = length s - k
+μ-loop s above₀ k₀ above k = length s - k
 
 loop-holds : tie.Need-loop-holds Inv-loop μ-loop
-loop-holds c = (search needs, below-none _)
+unfolding anyBelow
+loop-holds c = (search needs, refl)
 
-shared-slice-read-if1 : tie.Need-shared-slice-read-if1 Inv-loop μ-loop
-shared-slice-read-if1 c = search needs
-
-returns : tie.Need-returns Inv-loop μ-loop
-returns c = one-above (c .before .before .before .before .args .s .now) (c .before .before .before .loop .k) (search needs) (c .if1 .taken)
+shared-slice-read-above : tie.Need-shared-slice-read-above Inv-loop μ-loop
+shared-slice-read-above c = search needs
 
 add-k : tie.Need-add-k Inv-loop μ-loop
 add-k c = search needs
@@ -45,10 +41,11 @@ loop-less : tie.Need-loop-less Inv-loop μ-loop
 loop-less c = search needs
 
 loop-again : tie.Need-loop-again Inv-loop μ-loop
-loop-again c = (search needs, below-more _ _ (c .before .before .before .loop .inv .1) (c .if1 .left))
+loop-again c = (search needs, one-more (c .before .before .before .args .s .now) (c .before .before .loop .k) _ (c .before .before .loop .inv .1))
 
-returns-2 : tie.Need-returns-2 Inv-loop μ-loop
-returns-2 c = none-above (c .before .before .args .s .now) (λ k h. c .before .loop .inv .1 k (omega arith))
+returns : tie.Need-returns Inv-loop μ-loop
+unfolding byteAboveOne
+returns c = c .before .loop .inv .1 ∙ ap (aboveBelow (c .before .before .args .s .now)) (omega arith)
 
 pub byte-above-one-spec : {M : Type 1} → statement M
-byte-above-one-spec = tie.close (tie.spec Inv-loop μ-loop loop-holds shared-slice-read-if1 returns add-k loop-less loop-again returns-2)
+byte-above-one-spec = tie.close (tie.spec Inv-loop μ-loop loop-holds shared-slice-read-above add-k loop-less loop-again returns)
