@@ -70,14 +70,16 @@ pub(crate) fn copy(from: &[u8], to: &mut [u8])
     }
 }
 
-// The word in as many bits as there is room for.
+// The word in as many bits as there is room for, from the last bit to the first.
 fn write_bits(word: u64, to: &mut [u8])
     ensures { λ _. ⌜ now (to .exit) ≡ bits (length (now (to .entry))) word ⌝ }
 {
-    let mut k = 0;
-    while k < to.len() {
-        to[k] = bit(word, to.len() - 1 - k);
-        k += 1;
+    let mut rest = word;
+    let mut k = to.len();
+    while k > 0 {
+        k -= 1;
+        to[k] = (rest % 2) as u8;
+        rest = rest / 2;
     }
 }
 
