@@ -1,7 +1,8 @@
 //! Nanoseconds for each call of the library, beside the second implementation of `tests/`,
-//! libosmocore and plain tables, on the same random inputs in one run.
+//! libosmocore, plain tables and plain copies, on the same random inputs in one run.
 
 mod ask;
+mod bursts;
 mod cell;
 mod osmocore;
 mod plain;
@@ -238,5 +239,6 @@ fn main() {
     ];
     tables.extend(cell::tables(&mut random));
     tables.extend(ask::tables(&mut random));
+    tables.push(bursts::table(&mut random));
     timing::run(tables);
 }
