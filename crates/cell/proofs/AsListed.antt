@@ -6,9 +6,7 @@ use mathlib.Core.List.{List, _∷_}
 use mathlib.Core.Option.{Option, some}
 use lib.Dec.{eqb}
 use lib.ListN.{set}
-use Rattle.cell.specs.declared.Cell.{Cell}
-use Rattle.cell.specs.declared.LineState.{LineState}
-use Rattle.cell.specs.State.{Values, tabulate, lineCount, ownerRoom, lineWith, free, closedLine, lineAt}
+use Rattle.cell.specs.State.{Cell, LineState, Values, tabulate, lineCount, ownerRoom, lineWith, free, closedLine, lineAt}
 use Rattle.cell.specs.Calls.{withLine, withOwner}
 use Rattle.cell.specs.History.{Call, opens, closes, Made, opensOrCloses, seizesOrReleases, openedWith, since, lastAccepted, ownerIn, heldBy, lineOr, cellFrom}
 use Rattle.cell.proofs.Tabulate.{tabulate-at, tabulate-set}

@@ -12,8 +12,7 @@ use Rattle.answers.specs.Search.{allBelow}
 use Rattle.answers.proofs.Decide.{decided}
 use Rattle.hopping.specs.Allocation.{isAllocation}
 use Rattle.hopping.proofs.Apart.{at-most-64}
-use Rattle.cell.specs.declared.Cell.{Cell}
-use Rattle.cell.specs.State.{allocation, empty}
+use Rattle.cell.specs.State.{Cell, allocation, empty}
 use Rattle.cell.specs.Calls.{step, startCauses, refusedCell, startOf}
 use Rattle.cell.specs.History.{openedWith, lastAccepted, cellFrom}
 use Rattle.cell.proofs.Tabulate.{tabulate-list}

@@ -12,8 +12,7 @@ use Rattle.answers.specs.Search.{anyBelow}
 use Rattle.answers.proofs.Decide.{Caused, refused-has-cause, refused-is-lowest, FairAnswer, fair-answer, NoCause, decided}
 use Rattle.answers.proofs.Search.{any-none, First, first-or-none, least-first}
 use Rattle.answers.proofs.Tests.{or-false, not-both}
-use Rattle.cell.specs.declared.Cell.{Cell}
-use Rattle.cell.specs.State.{Values, lineCount, lineWith, free, closedLine, lineAt, empty}
+use Rattle.cell.specs.State.{Cell, Values, lineCount, lineWith, free, closedLine, lineAt, empty}
 use Rattle.cell.specs.Calls.{Step, step, startCauses, refusedCell, startOf, withLine, withOwner, inTheWay, clashCause, openCauses, openOf, closeCauses, closeOf, seizeCauses, seizeOf, releaseCauses, releaseOf}
 use Rattle.cell.specs.OnAir.{slotOf, lineCauses, lineOf}
 use Rattle.cell.specs.Who.{whoCauses, matchOf, whoOf}

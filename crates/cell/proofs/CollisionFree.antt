@@ -16,8 +16,8 @@ use Rattle.frame_map.specs.Channels.{isCommon}
 use Rattle.frame_map.specs.Combinations.{rowsOf}
 use Rattle.frame_map.specs.Rows.{Row, stands, told}
 use Rattle.frame_map.proofs.OneChannel.{rows-one-channel}
-use Rattle.cell.specs.declared.Cell.{Cell}
-use Rattle.cell.specs.State.{Values, allocation}
+use Rattle.cell.specs.State.{Cell, Values, allocation}
+use Rattle.cell.specs.Words.{cellOf}
 use Rattle.cell.specs.Calls.{Step, physical, startOf, changed}
 use Rattle.cell.specs.History.{Call, Made, openedWith, cellFrom}
 use Rattle.cell.specs.Carried.{Channel, subchannel, commonPart, lineNumber, isOf, Spot, Stands}
@@ -145,22 +145,26 @@ third-demand ca c0 bcc ag p calls =
 
 -- ---- the same of the code
 
-handed-keeps : (first : Cell) (calls : List Answered) (c : Cell) (past : List Made) → Invariant first (record { cell = c; past = past }) → Promised c calls → Invariant first (handed c past calls)
+handed-keeps : (first : Cell) (calls : List Answered) (words : List ℕ) (past : List Made) → Invariant first (record { cell = cellOf words; past = past }) → Promised words calls
+    → Invariant first (handed words past calls)
 unfolding Promised handed
-handed-keeps first [] c past h p = h
-handed-keeps first (a ∷ more) c past h p =
-    handed-keeps first more (a .result .cell) _ (step-keeps first (record { cell = c; past = past }) h (a .call) (changed (a .result)) (p .0)) (p .1)
+handed-keeps first [] words past h p = h
+handed-keeps first (a ∷ more) words past h p =
+    handed-keeps first more (a .words) _ (step-keeps first (record { cell = cellOf words; past = past }) h (a .call) (changed (a .answer) (cellOf (a .words))) (p .0)) (p .1)
 
 pub third-demand-of-code : ThirdDemandOfCode
 unfolding ThirdDemandOfCode
-third-demand-of-code ca c0 bcc ag p first e calls promised =
-    record { collision-free = free; line = λ n v fn d o hf hd answer q. q ∙ free .line n v fn d o hf hd }
+third-demand-of-code ca c0 bcc ag p answer words e calls promised =
+    record { collision-free = free; line = λ n v fn d o hf hd shown q. q ∙ free .line n v fn d o hf hd }
   where
-    begun : Begun (first .cell)
+    first : Cell
+    first = cellOf words
+
+    begun : Begun first
     begun = subst Begun (sym (ap (λ (s : Step). s .cell) e)) (start-begun ca c0 bcc ag p)
 
     end : Run
-    end = handed (first .cell) [] calls
+    end = handed words [] calls
 
-    free : CollisionFree (first .cell) (end .past) (end .cell)
-    free = collision-free-of (first .cell) begun end (handed-keeps (first .cell) calls (first .cell) [] (begin-keeps (first .cell) begun) promised)
+    free : CollisionFree first (end .past) (end .cell)
+    free = collision-free-of first begun end (handed-keeps first calls words [] (begin-keeps first begun) promised)

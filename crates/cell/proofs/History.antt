@@ -9,8 +9,7 @@ use native.Mathlib.Omega.{arith}
 use lib.Dec.{eqb}
 use borrow.Author.Tests.{eq-eqb, ne-eqb, eqb-true, eqb-false}
 use Rattle.answers.proofs.Tests.{and-both, and-false-right}
-use Rattle.cell.specs.declared.LineState.{LineState}
-use Rattle.cell.specs.State.{Values, ownerRoom, lineWith}
+use Rattle.cell.specs.State.{LineState, Values, ownerRoom, lineWith}
 use Rattle.cell.specs.History.{Call, opens, closes, Made, lastAccepted, opensOrCloses, valuesIn, openedWith, since, seizesOrReleases, ownerIn, heldBy, lineOr}
 use Rattle.cell.proofs.Tabulate.{tabulate-same}
 

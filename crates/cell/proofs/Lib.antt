@@ -1,5 +1,6 @@
 pub mod Lines
 pub mod Tabulate
+pub mod Storage
 pub mod History
 pub mod AsListed
 pub mod Sound

@@ -19,9 +19,7 @@ use Rattle.frame_map.specs.Map.{outOfRange, mapOf}
 use Rattle.frame_map.specs.Rows.{standing}
 use Rattle.frame_map.proofs.Range.{accepted-map}
 use Rattle.frame_map.proofs.Stood.{Stood, standing-stood}
-use Rattle.cell.specs.declared.Cell.{Cell}
-use Rattle.cell.specs.declared.LineState.{LineState}
-use Rattle.cell.specs.State.{Values, ownerRoom, lineWith, isOpen, lineAt, ownerAt, allocation}
+use Rattle.cell.specs.State.{Cell, LineState, Values, ownerRoom, lineWith, isOpen, lineAt, ownerAt, allocation}
 use Rattle.cell.specs.OnAir.{Slot, entryAt, inFrame, ownerOf, slotOf, lineOf}
 use Rattle.cell.specs.History.{Made, openedWith, heldBy, cellFrom}
 use Rattle.cell.specs.CollisionFree.{slotFrom}

@@ -23,9 +23,7 @@ use Rattle.paging.proofs.FirstBlock.{FirstBlock, first, past-turn}
 use Rattle.paging.proofs.Group.{turn-below}
 use Rattle.paging.proofs.Imsi.{last-three-below}
 use Rattle.paging.proofs.PagedFrames.{stands-alone, in-map}
-use Rattle.cell.specs.declared.Cell.{Cell}
-use Rattle.cell.specs.declared.LineState.{LineState}
-use Rattle.cell.specs.State.{Values, lineWith, lineAt}
+use Rattle.cell.specs.State.{Cell, LineState, Values, lineWith, lineAt}
 use Rattle.cell.specs.Calls.{anyLine, hasCombination, isCommonLine}
 use Rattle.cell.specs.Paging.{commonOf, pageOf}
 use Rattle.cell.specs.History.{Made, openedWith, heldBy, cellFrom}

@@ -13,9 +13,7 @@ use Rattle.answers.specs.Outcome.{Outcome}
 use Rattle.answers.proofs.Decide.{None, decided}
 use Rattle.answers.proofs.Search.{First, any-at, any-none, first-or-none}
 use Rattle.answers.proofs.Tests.{and-left, and-right, and-both, and-rest, or-left, or-right, not-both}
-use Rattle.cell.specs.declared.Cell.{Cell}
-use Rattle.cell.specs.declared.LineState.{LineState}
-use Rattle.cell.specs.State.{Values, lineCount, lineWith, isOpen, lineAt}
+use Rattle.cell.specs.State.{Cell, LineState, Values, lineCount, lineWith, isOpen, lineAt}
 use Rattle.cell.specs.Calls.{step, anyLine, hasCombination, isCommonCombination, isCommonLine, standsIn, c0Alone, misplaced, needed, openCauses, openOf, closeCauses, closeOf, seizeCauses, seizeOf, releaseCauses, releaseOf}
 use Rattle.cell.specs.History.{Call, opens, closes, seizes, releases, Made, openedWith, lastAccepted, heldBy, cellFrom}
 use Rattle.cell.specs.CollisionFree.{calling, made}

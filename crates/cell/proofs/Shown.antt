@@ -15,9 +15,7 @@ use Rattle.frame_map.specs.Combinations.{rowsOf}
 use Rattle.frame_map.specs.Rows.{stands, told, standing}
 use Rattle.frame_map.proofs.OneChannel.{one-channel}
 use Rattle.frame_map.proofs.Stood.{Stood, stood, standing-stood}
-use Rattle.cell.specs.declared.Cell.{Cell}
-use Rattle.cell.specs.declared.LineState.{LineState}
-use Rattle.cell.specs.State.{Values, lineAt}
+use Rattle.cell.specs.State.{Cell, LineState, Values, lineAt}
 use Rattle.cell.specs.OnAir.{Slot, ownerOf, slotOf, lineCauses, lineOf}
 use Rattle.cell.specs.History.{Made, openedWith, heldBy, cellFrom}
 use Rattle.cell.specs.Carried.{Channel, subchannel, commonPart, lineNumber, isHeld, isOf, Spot, Stands}

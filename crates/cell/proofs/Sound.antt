@@ -18,9 +18,7 @@ use Rattle.hopping.specs.Masks.{ones, oneAtOrAbove}
 use Rattle.hopping.specs.Clash.{clash}
 use Rattle.frame_map.specs.Combinations.{isCombination}
 use Rattle.frame_map.proofs.Range.{combination-zero}
-use Rattle.cell.specs.declared.Cell.{Cell}
-use Rattle.cell.specs.declared.LineState.{LineState}
-use Rattle.cell.specs.State.{Values, lineCount, lineWith, closedLine, isOpen, lineAt}
+use Rattle.cell.specs.State.{Cell, LineState, Values, lineCount, lineWith, closedLine, isOpen, lineAt}
 use Rattle.cell.specs.Calls.{Step, step, openRange, noAllocation, noMaio, physical, linePhysical, inTheWay, openCauses, openOf, closeCauses, closeOf, seizeCauses, seizeOf, releaseCauses, releaseOf}
 use Rattle.cell.specs.History.{Call, opens, closes, seizes, releases, Made, openedWith, lastAccepted, heldBy, lineOr, cellFrom}
 use Rattle.cell.specs.CollisionFree.{calling, made}

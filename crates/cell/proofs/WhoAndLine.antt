@@ -16,9 +16,7 @@ use Rattle.answers.proofs.Tests.{and-left, and-right, and-both}
 use Rattle.clock.specs.Clock.{hyperframe}
 use Rattle.hopping.specs.Hopping.{linePosition, lineArfcn}
 use Rattle.hopping.proofs.Apart.{line-within, entry-arfcn}
-use Rattle.cell.specs.declared.Cell.{Cell}
-use Rattle.cell.specs.declared.LineState.{LineState}
-use Rattle.cell.specs.State.{Values, lineCount, isOpen, lineAt, allocation}
+use Rattle.cell.specs.State.{Cell, LineState, Values, lineCount, isOpen, lineAt, allocation}
 use Rattle.cell.specs.OnAir.{Slot, arfcnIn, slotOf, lineCauses, lineOf}
 use Rattle.cell.specs.Who.{lineIsOn, Match, matchAt, whoCauses, matchOf, whoOf}
 use Rattle.cell.specs.History.{Made, openedWith, cellFrom}

@@ -7,15 +7,13 @@ use lib.Dec.{ltb, eqb}
 use lib.ListN.{length, getD, set}
 use Rattle.answers.specs.Outcome.{Refused, Outcome, refused, accepted, Cause, cause, decide}
 use Rattle.answers.specs.Refusals.{refusalIn}
+use Rattle.answers.specs.declared.Answer.{Answer}
 use Rattle.answers.specs.Search.{anyBelow, least}
 use Rattle.hopping.specs.Masks.{contains, ones, oneAtOrAbove}
 use Rattle.hopping.specs.Allocation.{isAllocation}
 use Rattle.hopping.specs.Clash.{Physical, clash}
 use Rattle.frame_map.specs.Combinations.{isCombination}
-use Rattle.cell.specs.declared.Cell.{Cell}
-use Rattle.cell.specs.declared.LineState.{LineState}
-use Rattle.cell.specs.declared.Changed.{Changed}
-use Rattle.cell.specs.State.{Values, lineCount, ownerRoom, lineWith, free, closedLine, isOpen, lineAt, ownerAt, empty}
+use Rattle.cell.specs.State.{Cell, LineState, Values, lineCount, ownerRoom, lineWith, free, closedLine, isOpen, lineAt, ownerAt, empty}
 
 -- ---- what a call hands back
 
@@ -29,9 +27,9 @@ abbrev pub step : Cell → Outcome Cell → Step
 step before (refused r) = record { refusal = some r; cell = before }
 step before (accepted after) = record { refusal = none; cell = after }
 
--- what the code's answer says
-abbrev pub changed : Changed → Step
-changed r = record { refusal = refusalIn (r .answer); cell = r .cell }
+-- what the code answers, and the cell that it leaves
+abbrev pub changed : Answer → Cell → Step
+changed answer cell = record { refusal = refusalIn answer; cell = cell }
 
 -- ---- start
 

@@ -11,8 +11,7 @@ use Rattle.hopping.specs.Hopping.{lineArfcn}
 use Rattle.frame_map.specs.Channels.{Standing, isCommon}
 use Rattle.frame_map.specs.Combinations.{rowsOf}
 use Rattle.frame_map.specs.Rows.{Row, stands, told}
-use Rattle.cell.specs.declared.Cell.{Cell}
-use Rattle.cell.specs.State.{Values, allocation}
+use Rattle.cell.specs.State.{Cell, Values, allocation}
 use Rattle.cell.specs.History.{Made, openedWith, heldBy}
 
 -- subchannel s of line n, or the common part of line n

@@ -8,15 +8,15 @@ use mathlib.Core.List.{List, [], _∷_, List·Memᴰ}
 use mathlib.Core.Option.{Option, none, some}
 use lib.Dec.{eqb}
 use Rattle.answers.specs.Outcome.{Refused, accepted}
+use Rattle.answers.specs.declared.Answer.{Answer}
 use Rattle.clock.specs.Clock.{hyperframe}
 use Rattle.hopping.specs.Hopping.{lineArfcn}
 use Rattle.frame_map.specs.Channels.{Standing}
 use Rattle.frame_map.specs.Combinations.{rowsOf}
 use Rattle.frame_map.specs.Rows.{standing}
-use Rattle.cell.specs.declared.Cell.{Cell}
-use Rattle.cell.specs.declared.Changed.{Changed}
 use Rattle.cell.specs.declared.Aired.{Aired}
-use Rattle.cell.specs.State.{Values, lineAt, allocation}
+use Rattle.cell.specs.State.{Cell, Values, lineAt, allocation}
+use Rattle.cell.specs.Words.{cellOf}
 use Rattle.cell.specs.Calls.{Step, startOf, openOf, closeOf, seizeOf, releaseOf, changed}
 use Rattle.cell.specs.OnAir.{Slot, ownerOf, lineOf, aired}
 use Rattle.cell.specs.History.{Call, opens, closes, seizes, releases, Made, openedWith, heldBy, cellFrom}
@@ -100,20 +100,21 @@ ThirdDemand =
 
 -- ---- the same of the code: all that is known of it is what its functions promise
 
--- a call and what the code handed back
+-- a call, what the code answered, and the words that it left
 pub record Answered : Type 0 where
   pub call : Call
-  pub result : Changed
+  pub answer : Answer
+  pub words : List ℕ
 
--- each call was made on the cell that the one before it handed back, and its function kept its promise
-unfoldable pub Promised : Cell → List Answered → Type 0
-Promised c [] = Unit
-Promised c (a ∷ more) = (changed (a .result) ≡ calling c (a .call)) × Promised (a .result .cell) more
+-- each call was made on the words that the one before it left, and its function kept its promise
+unfoldable pub Promised : List ℕ → List Answered → Type 0
+Promised words [] = Unit
+Promised words (a ∷ more) = (changed (a .answer) (cellOf (a .words)) ≡ calling (cellOf words) (a .call)) × Promised (a .words) more
 
 -- the last cell, and the history
-unfoldable pub handed : Cell → List Made → List Answered → Run
-handed c past [] = record { cell = c; past = past }
-handed c past (a ∷ more) = handed (a .result .cell) (made (a .call) (changed (a .result)) ∷ past) more
+unfoldable pub handed : List ℕ → List Made → List Answered → Run
+handed words past [] = record { cell = cellOf words; past = past }
+handed words past (a ∷ more) = handed (a .words) (made (a .call) (changed (a .answer) (cellOf (a .words))) ∷ past) more
 
 pub record Delivered (first : Cell) (end : Run) : Type 0 where
   pub collision-free : CollisionFree first (end .past) (end .cell)
@@ -124,5 +125,5 @@ pub record Delivered (first : Cell) (end : Run) : Type 0 where
 -- the third demand, of whatever start, open, close, seize, release and line hand back
 unfoldable pub ThirdDemandOfCode : Type 0
 ThirdDemandOfCode =
-    (ca : List ℕ) (c0 bcc ag p : ℕ) (first : Changed) → changed first ≡ startOf ca c0 bcc ag p
-    → (calls : List Answered) → Promised (first .cell) calls → Delivered (first .cell) (handed (first .cell) [] calls)
+    (ca : List ℕ) (c0 bcc ag p : ℕ) (answer : Answer) (words : List ℕ) → changed answer (cellOf words) ≡ startOf ca c0 bcc ag p
+    → (calls : List Answered) → Promised words calls → Delivered (cellOf words) (handed words [] calls)

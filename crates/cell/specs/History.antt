@@ -5,9 +5,7 @@ use mathlib.Core.Bool.{Bool, false, _&&_, cond}
 use mathlib.Core.List.{List, [], _∷_}
 use mathlib.Core.Option.{Option, none, some}
 use lib.Dec.{eqb}
-use Rattle.cell.specs.declared.Cell.{Cell}
-use Rattle.cell.specs.declared.LineState.{LineState}
-use Rattle.cell.specs.State.{Values, tabulate, lineCount, lineWith, closedLine}
+use Rattle.cell.specs.State.{Cell, LineState, Values, tabulate, lineCount, lineWith, closedLine}
 
 -- a call with its arguments: the line, then the six values, or the subchannel and the owner
 pub data Call : Type 0 where

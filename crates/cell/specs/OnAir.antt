@@ -10,12 +10,10 @@ use Rattle.clock.specs.Clock.{hyperframe}
 use Rattle.hopping.specs.Hopping.{positionOf}
 use Rattle.frame_map.specs.Channels.{Standing, isCommon}
 use Rattle.frame_map.specs.Map.{mapOf, carried}
-use Rattle.cell.specs.declared.Cell.{Cell}
-use Rattle.cell.specs.declared.LineState.{LineState}
 use Rattle.cell.specs.declared.OnAir.{OnAir}
 use Rattle.cell.specs.declared.Aired.{Aired}
 use Rattle.cell.specs.declared.Aired.the-variants as Aired
-use Rattle.cell.specs.State.{isOpen, lineAt, ownerAt}
+use Rattle.cell.specs.State.{Cell, LineState, isOpen, lineAt, ownerAt}
 
 -- "the ARFCN, and idle or the channel with s, blocks, places and owner": the list is empty for idle
 pub record Slot : Type 0 where

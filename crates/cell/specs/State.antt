@@ -4,8 +4,26 @@ use mathlib.Core.Bool.{Bool, not}
 use mathlib.Core.List.{List, [], _∷_}
 use lib.Dec.{eqb}
 use lib.ListN.{length, getD, take}
-use Rattle.cell.specs.declared.Cell.{Cell}
-use Rattle.cell.specs.declared.LineState.{LineState}
+
+-- a line: its six values, and the owner of each subchannel
+pub record LineState : Type 0 where
+  pub mask : ℕ
+  pub tn : ℕ
+  pub hsn : ℕ
+  pub maio : ℕ
+  pub combination : ℕ
+  pub tsc : ℕ
+  pub owners : List ℕ
+
+-- "CA, C0 in CA, BCC 0–7, BS_AG_BLKS_RES (AG) 0–7, BS_PA_MFRMS (P) 2–9, and 64 lines". CA is the first `length` entries of `ca`, and 0 follows them
+pub record Cell : Type 0 where
+  pub ca : List ℕ
+  pub length : ℕ
+  pub c0 : ℕ
+  pub bcc : ℕ
+  pub ag : ℕ
+  pub p : ℕ
+  pub lines : List LineState
 
 -- the list f 0, f 1 and so on, n entries
 unfoldable pub tabulate : {A : Type 0} → ℕ → (ℕ → A) → List A

@@ -8,11 +8,9 @@ use Rattle.answers.specs.Outcome.{Outcome, refused, accepted, Cause, cause, dec
 use Rattle.answers.specs.Refusals.{refusalOf}
 use Rattle.answers.specs.Search.{anyBelow, least}
 use Rattle.clock.specs.Clock.{hyperframe}
-use Rattle.cell.specs.declared.Cell.{Cell}
-use Rattle.cell.specs.declared.LineState.{LineState}
 use Rattle.cell.specs.declared.Sought.{Sought}
 use Rattle.cell.specs.declared.Sought.the-variants as Sought
-use Rattle.cell.specs.State.{lineCount, isOpen, lineAt}
+use Rattle.cell.specs.State.{Cell, LineState, lineCount, isOpen, lineAt}
 use Rattle.cell.specs.OnAir.{Slot, arfcnIn, slotOf, slotIn}
 
 -- line l is an "open line of that TN" and "has that ARFCN in that frame"

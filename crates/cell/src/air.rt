@@ -1,26 +1,40 @@
 // What a line sends in a frame.
-use crate::Cell;
-use crate::LineState;
 use crate::OnAir;
-use crate::subchannels::owner_at;
+use crate::words::WORDS;
+use crate::words::combination_at;
+use crate::words::entry;
+use crate::words::hsn_at;
+use crate::words::length;
+use crate::words::maio_at;
+use crate::words::mask_at;
+use crate::words::owner_at;
+use crate::words::tn_at;
 use frame_map::Content;
 use frame_map::Kind;
 use frame_map::Mapped;
 use hopping::Positioned;
-use hopping::allocation::entry;
 ghost use mathlib.Core.Path.{_≡_};
-ghost use Rattle.hopping.specs.Hopping.{positionOf};
+ghost use Prim.Native.Nat.{_<_};
 ghost use Rattle.frame_map.specs.Channels.{isCommon};
 ghost use Rattle.frame_map.specs.Map.{mapOf, carried};
-ghost use Rattle.cell.specs.OnAir.{entryAt, inFrame, ownerOf, slotOf, slotIn};
-ghost use Rattle.cell.specs.State.{ownerAt};
+ghost use Rattle.cell.specs.OnAir.{arfcnIn, inFrame, ownerOf, slotOf, slotIn};
+ghost use Rattle.cell.specs.State.{lineAt, ownerAt};
+ghost use Rattle.cell.specs.Words.{cellOf};
 
-// The entry at the line's position.
-pub(crate) fn arfcn(ca: &[u16], length: u32, l: LineState, number: u32) -> u32
-    ensures { λ r. ⌜ r ≡ entryAt (now (ca .entry)) (positionOf length (l .mask) (l .hsn) (l .maio) number) ⌝ }
+// The CA entry at the position of line n.
+pub(crate) fn arfcn(cell: &[u32; WORDS], n: usize, number: u32) -> u32
+    requires { ⌜ n < 64 ⌝ }
+    ensures { λ r. ⌜ r ≡ arfcnIn (cellOf (now (cell .entry))) (lineAt (cellOf (now (cell .entry))) n) number ⌝ }
 {
-    match hopping::position(length, l.mask, l.hsn, l.maio, number) {
-        Positioned::At(p) => entry(ca, p),
+    let mask = mask_at(cell, n);
+    match hopping::position(
+        length(cell),
+        mask,
+        hsn_at(cell, n),
+        maio_at(cell, n),
+        number,
+    ) {
+        Positioned::At(p) => entry(cell, p),
         Positioned::Refused(_) => 0,
     }
 }
@@ -50,9 +64,10 @@ fn is_common(kind: Kind) -> bool
     }
 }
 
-// The owner of what stands in the frame.
-fn owner(l: LineState, content: Content) -> u32
-    ensures { λ r. ⌜ r ≡ ownerOf (ownerAt l) (carried content) ⌝ }
+// The owner of what stands in the frame, of line n.
+fn owner(cell: &[u32; WORDS], n: usize, content: Content) -> u32
+    requires { ⌜ n < 64 ⌝ }
+    ensures { λ r. ⌜ r ≡ ownerOf (ownerAt (lineAt (cellOf (now (cell .entry))) n)) (carried content) ⌝ }
 {
     let Content::Channel(burst) = content else {
         return 0;
@@ -61,18 +76,18 @@ fn owner(l: LineState, content: Content) -> u32
     if is_common(kind) {
         return 0;
     }
-    owner_at(l, burst.subchannel)
+    owner_at(cell, n, burst.subchannel)
 }
 
-// What line l of the cell sends.
-pub(crate) fn on_air(cell: Cell, l: LineState, number: u32, direction: u32) -> OnAir
-    ensures { λ r. ⌜ slotIn r ≡ slotOf cell l number direction ⌝ }
+// What line n of the cell sends.
+pub(crate) fn on_air(cell: &[u32; WORDS], n: usize, number: u32, direction: u32) -> OnAir
+    requires { ⌜ n < 64 ⌝ }
+    ensures { λ r. ⌜ slotIn r ≡ slotOf (cellOf (now (cell .entry))) (lineAt (cellOf (now (cell .entry))) n) number direction ⌝ }
 {
-    let content = content(l.combination, l.tn, number, direction);
-    let ca = cell.ca;
+    let content = content(combination_at(cell, n), tn_at(cell, n), number, direction);
     OnAir {
-        arfcn: arfcn(&ca, cell.length, l, number),
+        arfcn: arfcn(cell, n, number),
         content,
-        owner: owner(l, content),
+        owner: owner(cell, n, content),
     }
 }

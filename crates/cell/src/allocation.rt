@@ -1,9 +1,8 @@
-// The cell allocation as the cell keeps it.
+// The search for an ARFCN in a cell allocation.
 ghost use mathlib.Core.Path.{_≡_};
 ghost use lib.Dec.{eqb};
 ghost use lib.ListN.{length, getD};
 ghost use Rattle.answers.specs.Search.{least};
-ghost use Rattle.cell.specs.State.{tabulate};
 
 fn wide(a: u16) -> u32
     ensures { λ r. ⌜ r ≡ a ⌝ }
@@ -23,26 +22,4 @@ pub(crate) fn find(ca: &[u16], arfcn: u32) -> usize
         k += 1;
     }
     k
-}
-
-fn entry(ca: &[u16], k: usize) -> u16
-    ensures { λ r. ⌜ r ≡ getD (now (ca .entry)) k 0 ⌝ }
-{
-    if k >= ca.len() {
-        return 0;
-    }
-    ca[k]
-}
-
-// The first 64 entries, with 0 for those past the end.
-pub(crate) fn padded(ca: &[u16]) -> [u16; 64]
-    ensures { λ r. ⌜ r ≡ tabulate 64 (λ k. getD (now (ca .entry)) k 0) ⌝ }
-{
-    let mut list = [0u16; 64];
-    let mut k = 0;
-    while k < 64 {
-        list[k] = entry(ca, k);
-        k += 1;
-    }
-    list
 }

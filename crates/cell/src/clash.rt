@@ -1,32 +1,40 @@
 // The line that stands in the way of a line to be opened.
-use crate::Cell;
-use crate::LineState;
+use crate::words::WORDS;
+use crate::words::combination_at;
+use crate::words::hsn_at;
+use crate::words::maio_at;
+use crate::words::mask_at;
+use crate::words::tn_at;
 use hopping::masks::overlap;
 ghost use mathlib.Core.Path.{_≡_};
-ghost use mathlib.Core.Bool.{_&&_};
+ghost use Prim.Native.Nat.{_<_};
 ghost use Rattle.answers.specs.Search.{least};
-ghost use Rattle.hopping.specs.Clash.{clash};
-ghost use Rattle.cell.specs.State.{isOpen};
-ghost use Rattle.cell.specs.Calls.{linePhysical, inTheWay};
+ghost use Rattle.cell.specs.Calls.{inTheWay};
+ghost use Rattle.cell.specs.Words.{cellOf};
 
-// The line is open and clashes with these values.
-fn clashes(l: LineState, tn: u32, mask: u64, hsn: u32, maio: u32) -> bool
-    ensures { λ r. ⌜ r ≡ (isOpen l && clash (record { tn = tn; mask = mask; hsn = hsn; maio = maio }) (linePhysical l)) ⌝ }
+// Line n is open and clashes with these values.
+fn clashes(cell: &[u32; WORDS], n: usize, tn: u32, mask: u64, hsn: u32, maio: u32) -> bool
+    requires { ⌜ n < 64 ⌝ }
+    ensures { λ r. ⌜ r ≡ inTheWay (cellOf (now (cell .entry))) (record { tn = tn; mask = mask; hsn = hsn; maio = maio; combination = 0; tsc = 0 }) n ⌝ }
 {
-    let apart = (mask == l.mask) & (hsn == l.hsn) & !(maio == l.maio);
-    !(l.combination == 0) & ((tn == l.tn) & overlap(mask, l.mask) & !apart)
+    let line_mask = mask_at(cell, n);
+    let same_hsn = hsn == hsn_at(cell, n);
+    let same_maio = maio == maio_at(cell, n);
+    let apart = (mask == line_mask) & same_hsn & !same_maio;
+    let closed = combination_at(cell, n) == 0;
+    !closed & ((tn == tn_at(cell, n)) & overlap(mask, line_mask) & !apart)
 }
 
 // The smallest number of a line that stands in the way, 64 if none does.
-pub(crate) fn in_the_way(cell: Cell, tn: u32, mask: u64, hsn: u32, maio: u32) -> u32
-    ensures { λ r. ⌜ r ≡ least (inTheWay cell (record { tn = tn; mask = mask; hsn = hsn; maio = maio; combination = 0; tsc = 0 })) 64 64 ⌝ }
+pub(crate) fn in_the_way(cell: &[u32; WORDS], tn: u32, mask: u64, hsn: u32, maio: u32) -> u32
+    ensures { λ r. ⌜ r ≡ least (inTheWay (cellOf (now (cell .entry))) (record { tn = tn; mask = mask; hsn = hsn; maio = maio; combination = 0; tsc = 0 })) 64 64 ⌝ }
 {
     let mut n = 0;
     let found = loop {
         if n >= 64 {
             break 64;
         }
-        if clashes(cell.lines[n as usize], tn, mask, hsn, maio) {
+        if clashes(cell, n as usize, tn, mask, hsn, maio) {
             break n;
         }
         n += 1;

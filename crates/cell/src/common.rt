@@ -1,15 +1,21 @@
 // Where a common channel may stand (refusal 8), and the common lines as paging counts them.
-use crate::Cell;
-use crate::LineState;
-use hopping::allocation::entry;
+use crate::words::WORDS;
+use crate::words::ag;
+use crate::words::bcc;
+use crate::words::c0;
+use crate::words::combination_at;
+use crate::words::entry;
+use crate::words::tn_at;
 use hopping::masks::contains;
 ghost use mathlib.Core.Bool.{cond};
 ghost use mathlib.Core.Path.{_≡_};
-ghost use Prim.Native.Nat.{_-_};
+ghost use Prim.Native.Nat.{_-_, _<_};
 ghost use Rattle.answers.specs.Outcome.{anyOf};
 ghost use Rattle.cell.specs.Calls.{anyLine, hasCombination, misplaced, isCommonCombination, hasC0, c0Alone, needed};
 ghost use Rattle.cell.specs.Helpers.{wants};
 ghost use Rattle.cell.specs.Paging.{commonLines};
+ghost use Rattle.cell.specs.State.{lineAt};
+ghost use Rattle.cell.specs.Words.{cellOf};
 
 // A line that is looked for.
 pub(crate) enum Wanted {
@@ -33,11 +39,13 @@ fn is_common(combination: u32) -> bool
     (combination == 4) | (combination == 5) | (combination == 6)
 }
 
-fn is_wanted(l: LineState, w: Wanted) -> bool
-    ensures { λ r. ⌜ r ≡ wants w l ⌝ }
+// Line n is wanted.
+fn is_wanted(cell: &[u32; WORDS], n: usize, w: Wanted) -> bool
+    requires { ⌜ n < 64 ⌝ }
+    ensures { λ r. ⌜ r ≡ wants w (lineAt (cellOf (now (cell .entry))) n) ⌝ }
 {
-    let combination = l.combination;
-    let tn = wide(l.tn);
+    let combination = combination_at(cell, n);
+    let tn = wide(tn_at(cell, n));
     match w {
         Wanted::Common => is_common(combination),
         Wanted::Of(k) => combination == k,
@@ -46,12 +54,12 @@ fn is_wanted(l: LineState, w: Wanted) -> bool
 }
 
 // Some line is wanted.
-fn any_line(cell: Cell, w: Wanted) -> bool
-    ensures { λ r. ⌜ r ≡ anyLine cell (wants w) ⌝ }
+fn any_line(cell: &[u32; WORDS], w: Wanted) -> bool
+    ensures { λ r. ⌜ r ≡ anyLine (cellOf (now (cell .entry))) (wants w) ⌝ }
 {
     let mut n = 0;
     while n < 64 {
-        if is_wanted(cell.lines[n], w) {
+        if is_wanted(cell, n, w) {
             return true;
         }
         n += 1;
@@ -60,14 +68,13 @@ fn any_line(cell: Cell, w: Wanted) -> bool
 }
 
 // Some one of the mask stands for C0.
-fn has_c0(cell: Cell, mask: u64) -> bool
-    ensures { λ r. ⌜ r ≡ hasC0 cell mask ⌝ }
+fn has_c0(cell: &[u32; WORDS], mask: u64) -> bool
+    ensures { λ r. ⌜ r ≡ hasC0 (cellOf (now (cell .entry))) mask ⌝ }
 {
-    let ca = cell.ca;
-    let c0 = cell.c0;
+    let beacon = c0(cell);
     let mut p = 0;
     while p < 64 {
-        if contains(mask, p) & (entry(&ca, p) == c0) {
+        if contains(mask, p) & (entry(cell, p) == beacon) {
             return true;
         }
         p += 1;
@@ -76,8 +83,8 @@ fn has_c0(cell: Cell, mask: u64) -> bool
 }
 
 // The mask has C0 alone.
-fn c0_alone(cell: Cell, mask: u64) -> bool
-    ensures { λ r. ⌜ r ≡ c0Alone cell mask ⌝ }
+fn c0_alone(cell: &[u32; WORDS], mask: u64) -> bool
+    ensures { λ r. ⌜ r ≡ c0Alone (cellOf (now (cell .entry))) mask ⌝ }
 {
     (u64::count_ones(mask) == 1) & has_c0(cell, mask)
 }
@@ -93,8 +100,8 @@ fn lower(tn: u32) -> u64
 }
 
 // A line with these values would be a common channel out of its place.
-pub(crate) fn misplaced(cell: Cell, tn: u32, mask: u64, combination: u32, tsc: u32) -> bool
-    ensures { λ r. ⌜ r ≡ anyOf (misplaced cell (record { tn = tn; mask = mask; hsn = 0; maio = 0; combination = combination; tsc = tsc })) ⌝ }
+pub(crate) fn misplaced(cell: &[u32; WORDS], tn: u32, mask: u64, combination: u32, tsc: u32) -> bool
+    ensures { λ r. ⌜ r ≡ anyOf (misplaced (cellOf (now (cell .entry))) (record { tn = tn; mask = mask; hsn = 0; maio = 0; combination = combination; tsc = tsc })) ⌝ }
 {
     let common = is_common(combination);
     if !common {
@@ -105,9 +112,9 @@ pub(crate) fn misplaced(cell: Cell, tn: u32, mask: u64, combination: u32, tsc: u
     let first_elsewhere = first & !(tn == 0);
     let six_elsewhere = six & !((tn == 2) | (tn == 4) | (tn == 6));
     let other_mask = common & !c0_alone(cell, mask);
-    let other_code = common & !(tsc == cell.bcc);
+    let other_code = common & !(tsc == bcc(cell));
     let second = first & any_line(cell, Wanted::Common);
-    let reserved = (combination == 5) & (cell.ag > 2);
+    let reserved = (combination == 5) & (ag(cell) > 2);
     let no_first = six & (tn == 2) & !any_line(cell, Wanted::Of(4));
     let no_six = six & ((tn == 4) | (tn == 6)) & !any_line(cell, Wanted::In(6, lower(tn)));
     first_elsewhere
@@ -115,12 +122,17 @@ pub(crate) fn misplaced(cell: Cell, tn: u32, mask: u64, combination: u32, tsc: u
             | (other_mask | (other_code | (second | (reserved | (no_first | no_six))))))
 }
 
-// A 4 or 6 while a 6 is open two timeslots higher.
-pub(crate) fn needed(cell: Cell, l: LineState) -> bool
-    ensures { λ r. ⌜ r ≡ needed cell l ⌝ }
+// Line n is a 4 or 6 while a 6 is open two timeslots higher.
+pub(crate) fn needed(cell: &[u32; WORDS], n: usize) -> bool
+    requires { ⌜ n < 64 ⌝ }
+    ensures { λ r. ⌜ r ≡ needed (cellOf (now (cell .entry))) (lineAt (cellOf (now (cell .entry))) n) ⌝ }
 {
-    let higher = wide(l.tn) + 2;
-    ((l.combination == 4) | (l.combination == 6)) & any_line(cell, Wanted::In(6, higher))
+    let combination = combination_at(cell, n);
+    let higher = wide(tn_at(cell, n)) + 2;
+    if !((combination == 4) | (combination == 6)) {
+        return false;
+    }
+    any_line(cell, Wanted::In(6, higher))
 }
 
 fn one_if(common: bool) -> u32
@@ -133,21 +145,21 @@ fn one_if(common: bool) -> u32
 }
 
 // How many open lines are of combination 4, 5 or 6.
-pub(crate) fn common_lines(cell: Cell) -> u32
-    ensures { λ r. ⌜ r ≡ commonLines cell ⌝ }
+pub(crate) fn common_lines(cell: &[u32; WORDS]) -> u32
+    ensures { λ r. ⌜ r ≡ commonLines (cellOf (now (cell .entry))) ⌝ }
 {
     let mut count = 0;
     let mut n = 0;
     while n < 64 {
-        count += one_if(is_common(cell.lines[n].combination));
+        count += one_if(is_common(combination_at(cell, n)));
         n += 1;
     }
     count
 }
 
 // Some open line is of combination 5.
-pub(crate) fn has_combined(cell: Cell) -> bool
-    ensures { λ r. ⌜ r ≡ anyLine cell (hasCombination 5) ⌝ }
+pub(crate) fn has_combined(cell: &[u32; WORDS]) -> bool
+    ensures { λ r. ⌜ r ≡ anyLine (cellOf (now (cell .entry))) (hasCombination 5) ⌝ }
 {
     any_line(cell, Wanted::Of(5))
 }

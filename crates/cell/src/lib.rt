@@ -1,16 +1,17 @@
-// The cell: its table of lines, and the calls on it. Document 01, "The cell and its calls" and "Paging". common.rt has the places of common
-// channels (refusal 8) and their count, clash.rt the line that stands in the way (9), subchannels.rt the owners of a line, air.rt what a line
-// sends in a frame, seek.rt the line that has an ARFCN, allocation.rt the cell allocation.
+// The cell: its table of lines, and the calls on it. Document 01, "The cell and its calls" and "Paging". A cell is an array of words that the caller
+// lends; words.rt alone knows what stands where. common.rt has the places of common channels (refusal 8) and their count, clash.rt the line that
+// stands in the way (9), subchannels.rt the subchannels of a line, air.rt what a line sends in a frame, seek.rt the line that has an ARFCN,
+// allocation.rt the search in a cell allocation.
 mod air;
 mod allocation;
 mod clash;
 mod common;
 mod seek;
 mod subchannels;
+pub mod words;
 
 use air::on_air;
 use allocation::find;
-use allocation::padded;
 use answers::Answer;
 use answers::Refusal;
 use clash::in_the_way;
@@ -26,9 +27,17 @@ use hopping::masks::one_at_or_above;
 use paging::Paged;
 use seek::first_on;
 use subchannels::bad_owner;
-use subchannels::owner_at;
 use subchannels::some_held;
 use subchannels::subchannels;
+use words::WORDS;
+use words::ag;
+use words::combination_at;
+use words::length;
+use words::owner_at;
+use words::p;
+use words::put_line;
+use words::put_owner;
+use words::put_start;
 ghost use mathlib.Core.Option.{some};
 ghost use mathlib.Core.Path.{_≡_};
 ghost use Rattle.answers.specs.Outcome.{anyOf};
@@ -38,38 +47,8 @@ ghost use Rattle.cell.specs.Helpers.{passOf};
 ghost use Rattle.cell.specs.OnAir.{lineOf, aired};
 ghost use Rattle.cell.specs.Paging.{pageOf};
 ghost use Rattle.cell.specs.Who.{whoOf, sought};
+ghost use Rattle.cell.specs.Words.{cellOf};
 ghost use Rattle.paging.specs.Paging.{paged};
-ghost use Rattle.cell.specs.State.{tabulate, lineWith, free, closedLine};
-
-// A line: its six values and, for each subchannel, its owner (0 for free). A closed line has 0 everywhere.
-#[repr(C)]
-pub struct LineState {
-    mask: u64,
-    tn: u32,
-    hsn: u32,
-    maio: u32,
-    combination: u32,
-    tsc: u32,
-    owners: [u32; 8],
-}
-
-// CA is the first `length` entries of `ca`, and 0 follows them.
-#[repr(C)]
-pub struct Cell {
-    ca: [u16; 64],
-    length: u32,
-    c0: u32,
-    bcc: u32,
-    ag: u32,
-    p: u32,
-    lines: [LineState; 64],
-}
-
-// A call's answer, and the cell after it.
-pub struct Changed {
-    pub answer: Answer,
-    pub cell: Cell,
-}
 
 // What a line sends in a frame. The owner is 0 for idle, for a common part and for a free subchannel.
 pub struct OnAir {
@@ -95,76 +74,30 @@ pub enum Sought {
     Refused(Refusal),
 }
 
-fn refuse(cell: Cell, refusal: Refusal) -> Changed
-    ensures { λ r. ⌜ r ≡ record { answer = Answer.Refused refusal; cell = cell } ⌝ }
+// Refused, start leaves the cell of ARFCN 0.
+fn refuse_start(cell: &mut [u32; WORDS], refusal: Refusal) -> Answer
+    ensures { λ r. ⌜ changed r (cellOf (now (cell .exit))) ≡ record { refusal = some (refusalOf refusal); cell = refusedCell } ⌝ }
 {
-    Changed {
-        answer: Answer::Refused(refusal),
-        cell,
-    }
+    let ca = [0u16];
+    put_start(cell, &ca, 0, 0, 0, 2);
+    Answer::Refused(refusal)
 }
 
-// A line with these values and no owners.
-fn with_values(tn: u32, mask: u64, hsn: u32, maio: u32, combination: u32, tsc: u32) -> LineState
-    ensures { λ r. ⌜ r ≡ lineWith (record { tn = tn; mask = mask; hsn = hsn; maio = maio; combination = combination; tsc = tsc }) free ⌝ }
-{
-    LineState {
-        mask,
-        tn,
-        hsn,
-        maio,
-        combination,
-        tsc,
-        owners: [0; 8],
-    }
-}
-
-fn closed() -> LineState
-    ensures { λ r. ⌜ r ≡ closedLine ⌝ }
-{
-    with_values(0, 0, 0, 0, 0, 0)
-}
-
-// A cell with all lines closed. `ca` is CA and then 0 up to its end.
-fn empty_cell(ca: [u16; 64], length: u32, c0: u32, bcc: u32, ag: u32, p: u32) -> Cell
-    ensures { λ r. ⌜ r ≡ record { ca = ca; length = length; c0 = c0; bcc = bcc; ag = ag; p = p; lines = tabulate 64 (λ n. closedLine) } ⌝ }
-{
-    Cell {
-        ca,
-        length,
-        c0,
-        bcc,
-        ag,
-        p,
-        lines: [closed(); 64],
-    }
-}
-
-// Refused, start hands back the cell of ARFCN 0.
-fn refuse_start(refusal: Refusal) -> Changed
-    ensures { λ r. ⌜ changed r ≡ record { refusal = some (refusalOf refusal); cell = refusedCell } ⌝ }
-{
-    refuse(empty_cell([0; 64], 1, 0, 0, 0, 2), refusal)
-}
-
-// A cell with this CA, C0, BCC, BS_AG_BLKS_RES and BS_PA_MFRMS, all lines closed.
-pub fn start(ca: &[u16], c0: u32, bcc: u32, ag: u32, p: u32) -> Changed
-    ensures { λ r. ⌜ changed r ≡ startOf (now (ca .entry)) c0 bcc ag p ⌝ }
+// The words become a cell with this CA, C0, BCC, BS_AG_BLKS_RES and BS_PA_MFRMS, all lines closed.
+pub fn start(cell: &mut [u32; WORDS], ca: &[u16], c0: u32, bcc: u32, ag: u32, p: u32) -> Answer
+    ensures { λ r. ⌜ changed r (cellOf (now (cell .exit))) ≡ startOf (now (ca .entry)) c0 bcc ag p ⌝ }
 {
     if !is_allocation(ca) {
-        return refuse_start(Refusal::CellAllocation);
+        return refuse_start(cell, Refusal::CellAllocation);
     }
     if find(ca, c0) >= ca.len() {
-        return refuse_start(Refusal::CellParameter);
+        return refuse_start(cell, Refusal::CellParameter);
     }
     if (bcc > 7) | ((ag > 7) | ((p < 2) | (p > 9))) {
-        return refuse_start(Refusal::CellParameter);
+        return refuse_start(cell, Refusal::CellParameter);
     }
-    let length = ca.len() as u32;
-    Changed {
-        answer: Answer::Accepted,
-        cell: empty_cell(padded(ca), length, c0, bcc, ag, p),
-    }
+    put_start(cell, ca, c0, bcc, ag, p);
+    Answer::Accepted
 }
 
 fn out_of_range(line: u32, tn: u32, hsn: u32, combination: u32, tsc: u32) -> bool
@@ -175,7 +108,7 @@ fn out_of_range(line: u32, tn: u32, hsn: u32, combination: u32, tsc: u32) -> boo
 
 // Line `line` gets the six values.
 pub fn open(
-    mut cell: Cell,
+    cell: &mut [u32; WORDS],
     line: u32,
     tn: u32,
     mask: u64,
@@ -183,126 +116,115 @@ pub fn open(
     maio: u32,
     combination: u32,
     tsc: u32,
-) -> Changed
-    ensures { λ r. ⌜ changed r ≡ openOf cell line (record { tn = tn; mask = mask; hsn = hsn; maio = maio; combination = combination; tsc = tsc }) ⌝ }
+) -> Answer
+    ensures { λ r. ⌜ changed r (cellOf (now (cell .exit))) ≡ openOf (cellOf (now (cell .entry))) line (record { tn = tn; mask = mask; hsn = hsn; maio = maio; combination = combination; tsc = tsc }) ⌝ }
 {
     if out_of_range(line, tn, hsn, combination, tsc) {
-        return refuse(cell, Refusal::OutOfRange);
+        return Answer::Refused(Refusal::OutOfRange);
     }
-    if (mask == 0) | one_at_or_above(mask, cell.length) {
-        return refuse(cell, Refusal::MobileAllocation);
+    if (mask == 0) | one_at_or_above(mask, length(cell)) {
+        return Answer::Refused(Refusal::MobileAllocation);
     }
     if maio >= u64::count_ones(mask) {
-        return refuse(cell, Refusal::Maio);
+        return Answer::Refused(Refusal::Maio);
     }
-    let i = line as usize;
-    if cell.lines[i].combination != 0 {
-        return refuse(cell, Refusal::LineOpen);
+    let n = line as usize;
+    if combination_at(cell, n) != 0 {
+        return Answer::Refused(Refusal::LineOpen);
     }
     if misplaced(cell, tn, mask, combination, tsc) {
-        return refuse(cell, Refusal::CommonChannel);
+        return Answer::Refused(Refusal::CommonChannel);
     }
     let way = in_the_way(cell, tn, mask, hsn, maio);
     if way < 64 {
-        return refuse(cell, Refusal::Clash { line: way });
+        return Answer::Refused(Refusal::Clash { line: way });
     }
-    cell.lines[i] = with_values(tn, mask, hsn, maio, combination, tsc);
-    Changed {
-        answer: Answer::Accepted,
-        cell,
-    }
+    put_line(cell, n, tn, mask, hsn, maio, combination, tsc);
+    Answer::Accepted
 }
 
 // Line `line` is closed.
-pub fn close(mut cell: Cell, line: u32) -> Changed
-    ensures { λ r. ⌜ changed r ≡ closeOf cell line ⌝ }
+pub fn close(cell: &mut [u32; WORDS], line: u32) -> Answer
+    ensures { λ r. ⌜ changed r (cellOf (now (cell .exit))) ≡ closeOf (cellOf (now (cell .entry))) line ⌝ }
 {
     if line > 63 {
-        return refuse(cell, Refusal::OutOfRange);
+        return Answer::Refused(Refusal::OutOfRange);
     }
-    let i = line as usize;
-    let l = cell.lines[i];
-    if l.combination == 0 {
-        return refuse(cell, Refusal::LineClosed);
+    let n = line as usize;
+    if combination_at(cell, n) == 0 {
+        return Answer::Refused(Refusal::LineClosed);
     }
-    if needed(cell, l) {
-        return refuse(cell, Refusal::CommonChannel);
+    if needed(cell, n) {
+        return Answer::Refused(Refusal::CommonChannel);
     }
-    if some_held(l) {
-        return refuse(cell, Refusal::LineHeld);
+    if some_held(cell, n) {
+        return Answer::Refused(Refusal::LineHeld);
     }
-    cell.lines[i] = closed();
-    Changed {
-        answer: Answer::Accepted,
-        cell,
-    }
+    put_line(cell, n, 0, 0, 0, 0, 0, 0);
+    Answer::Accepted
 }
 
 // Subchannel s of line `line` passes from the owner `from` to the owner `to`, 0 for free. Where `from` is not its owner, the refusal is `other`.
 fn pass(
-    mut cell: Cell,
+    cell: &mut [u32; WORDS],
     line: u32,
     s: u32,
     owner: u32,
     from: u32,
     to: u32,
     other: Refusal,
-) -> Changed
-    ensures { λ r. ⌜ changed r ≡ passOf cell line s owner from to (refusalOf other) ⌝ }
+) -> Answer
+    ensures { λ r. ⌜ changed r (cellOf (now (cell .exit))) ≡ passOf (cellOf (now (cell .entry))) line s owner from to (refusalOf other) ⌝ }
 {
     if (line > 63) | bad_owner(owner) {
-        return refuse(cell, Refusal::OutOfRange);
+        return Answer::Refused(Refusal::OutOfRange);
     }
-    let i = line as usize;
-    let mut l = cell.lines[i];
-    if l.combination == 0 {
-        return refuse(cell, Refusal::LineClosed);
+    let n = line as usize;
+    let combination = combination_at(cell, n);
+    if combination == 0 {
+        return Answer::Refused(Refusal::LineClosed);
     }
-    if s >= subchannels(l.combination) {
-        return refuse(cell, Refusal::NoSubchannel);
+    if s >= subchannels(combination) {
+        return Answer::Refused(Refusal::NoSubchannel);
     }
-    if owner_at(l, s) != from {
-        return refuse(cell, other);
+    if owner_at(cell, n, s) != from {
+        return Answer::Refused(other);
     }
-    l.owners[s as usize] = to;
-    cell.lines[i] = l;
-    Changed {
-        answer: Answer::Accepted,
-        cell,
-    }
+    put_owner(cell, n, s, to);
+    Answer::Accepted
 }
 
 // Subchannel s of line `line`, if it is free, gets the owner.
-pub fn seize(cell: Cell, line: u32, s: u32, owner: u32) -> Changed
-    ensures { λ r. ⌜ changed r ≡ seizeOf cell line s owner ⌝ }
+pub fn seize(cell: &mut [u32; WORDS], line: u32, s: u32, owner: u32) -> Answer
+    ensures { λ r. ⌜ changed r (cellOf (now (cell .exit))) ≡ seizeOf (cellOf (now (cell .entry))) line s owner ⌝ }
 {
     pass(cell, line, s, owner, 0, owner, Refusal::SubchannelHeld)
 }
 
 // Subchannel s of line `line`, if this owner holds it, is free again.
-pub fn release(cell: Cell, line: u32, s: u32, owner: u32) -> Changed
-    ensures { λ r. ⌜ changed r ≡ releaseOf cell line s owner ⌝ }
+pub fn release(cell: &mut [u32; WORDS], line: u32, s: u32, owner: u32) -> Answer
+    ensures { λ r. ⌜ changed r (cellOf (now (cell .exit))) ≡ releaseOf (cellOf (now (cell .entry))) line s owner ⌝ }
 {
     pass(cell, line, s, owner, owner, 0, Refusal::NotHolder)
 }
 
 // What line `line` sends in frame `number`, downlink (0) or uplink (1).
-pub fn line(cell: Cell, line: u32, number: u32, direction: u32) -> Aired
-    ensures { λ r. ⌜ aired r ≡ lineOf cell line number direction ⌝ }
+pub fn line(cell: &[u32; WORDS], line: u32, number: u32, direction: u32) -> Aired
+    ensures { λ r. ⌜ aired r ≡ lineOf (cellOf (now (cell .entry))) line number direction ⌝ }
 {
     if (line > 63) | ((number >= Frame::HYPERFRAME) | (direction > 1)) {
         return Aired::Refused(Refusal::OutOfRange);
     }
-    let l = cell.lines[line as usize];
-    if l.combination == 0 {
+    let n = line as usize;
+    if combination_at(cell, n) == 0 {
         return Aired::Refused(Refusal::LineClosed);
     }
-    Aired::Line(on_air(cell, l, number, direction))
+    Aired::Line(on_air(cell, n, number, direction))
 }
 
 // Who is on the air: the open line of timeslot `tn` that has this ARFCN in frame `number`, and what it sends, downlink (0) or uplink (1).
-pub fn who(cell: Cell, tn: u32, arfcn: u32, number: u32, direction: u32) -> Sought
-    ensures { λ r. ⌜ sought r ≡ whoOf cell tn arfcn number direction ⌝ }
+pub fn who(cell: &[u32; WORDS], tn: u32, arfcn: u32, number: u32, direction: u32) -> Sought
+    ensures { λ r. ⌜ sought r ≡ whoOf (cellOf (now (cell .entry))) tn arfcn number direction ⌝ }
 {
     if (tn > 7) | ((arfcn > 1023) | ((number >= Frame::HYPERFRAME) | (direction > 1))) {
         return Sought::Refused(Refusal::OutOfRange);
@@ -313,21 +235,21 @@ pub fn who(cell: Cell, tn: u32, arfcn: u32, number: u32, direction: u32) -> Soug
     }
     Sought::Line(Found {
         line: n,
-        air: on_air(cell, cell.lines[n as usize], number, direction),
+        air: on_air(cell, n as usize, number, direction),
     })
 }
 
 // The timeslot and CCCH block in which a phone with this IMSI is paged, one digit to a byte, and the first frame at or after `number` in which the
 // block begins.
-pub fn page(cell: Cell, digits: &[u8], number: u32) -> Paged
-    ensures { λ r. ⌜ paged r ≡ pageOf cell (now (digits .entry)) number ⌝ }
+pub fn page(cell: &[u32; WORDS], digits: &[u8], number: u32) -> Paged
+    ensures { λ r. ⌜ paged r ≡ pageOf (cellOf (now (cell .entry))) (now (digits .entry)) number ⌝ }
 {
     paging::page(
         digits,
         common_lines(cell),
         has_combined(cell),
-        cell.ag,
-        cell.p,
+        ag(cell),
+        p(cell),
         number,
     )
 }

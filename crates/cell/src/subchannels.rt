@@ -1,8 +1,11 @@
 // The subchannels of a line and their owners.
-use crate::LineState;
+use crate::words::WORDS;
+use crate::words::owner_at;
 ghost use mathlib.Core.Path.{_≡_};
+ghost use Prim.Native.Nat.{_<_};
 ghost use Rattle.cell.specs.Calls.{badOwner, subchannels, someHeld};
-ghost use Rattle.cell.specs.State.{ownerAt};
+ghost use Rattle.cell.specs.State.{lineAt};
+ghost use Rattle.cell.specs.Words.{cellOf};
 
 const LAST_OWNER: u32 = 65_535;
 
@@ -25,22 +28,14 @@ pub(crate) fn subchannels(combination: u32) -> u32
     }
 }
 
-pub(crate) fn owner_at(l: LineState, s: u32) -> u32
-    ensures { λ r. ⌜ r ≡ ownerAt l s ⌝ }
-{
-    if s > 7 {
-        return 0;
-    }
-    l.owners[s as usize]
-}
-
-// Some subchannel of the line is held.
-pub(crate) fn some_held(l: LineState) -> bool
-    ensures { λ r. ⌜ r ≡ someHeld l ⌝ }
+// Some subchannel of line n is held.
+pub(crate) fn some_held(cell: &[u32; WORDS], n: usize) -> bool
+    requires { ⌜ n < 64 ⌝ }
+    ensures { λ r. ⌜ r ≡ someHeld (lineAt (cellOf (now (cell .entry))) n) ⌝ }
 {
     let mut s = 0;
     while s < 8 {
-        if owner_at(l, s) != 0 {
+        if owner_at(cell, n, s) != 0 {
             return true;
         }
         s += 1;

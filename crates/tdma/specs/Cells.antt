@@ -1,8 +1,11 @@
--- What the answers of the cell's calls have in plain numbers. Assumes nothing.
+-- What the answers of the cell's calls have in plain numbers, and what cell the lent words hold after them. Assumes nothing.
 use Prim.Native.Nat.{ℕ}
+use mathlib.Core.Path.{_≡_}
+use mathlib.Core.List.{List}
 use mathlib.Core.Option.{Option, none, some}
-use Rattle.answers.specs.Outcome.{Outcome, refused, accepted}
+use Rattle.answers.specs.Outcome.{Refused, Outcome, refused, accepted}
 use Rattle.frame_map.specs.Numbers.{Numbers, noNumbers, standingNumbers}
+use Rattle.cell.specs.Words.{cellOf}
 use Rattle.cell.specs.Calls.{Step}
 use Rattle.cell.specs.OnAir.{Slot}
 use Rattle.cell.specs.Who.{Match}
@@ -13,9 +16,13 @@ use Rattle.tdma.specs.declared.cells.TdmaWho.{TdmaWho}
 use Rattle.tdma.specs.declared.cells.TdmaPage.{TdmaPage}
 use Rattle.tdma.specs.Numbers.{refusalNumber, refusalValue}
 
--- the refusal, 0 where the call is accepted, and the cell after the call
-abbrev pub changedNumbers : Step → TdmaChanged
-changedNumbers s = record { refusal = refusalNumber (s .refusal); line = refusalValue (s .refusal); cell = s .cell }
+-- the refusal, 0 where the call is accepted, and with 9 the line in the way
+abbrev pub answerNumbers : Option Refused → TdmaChanged
+answerNumbers r = record { refusal = refusalNumber r; line = refusalValue r }
+
+-- the answer, and the cell that the words hold after a call, are the definition's
+abbrev pub Left : TdmaChanged → List ℕ → Step → Type 0
+Left r words s = (r ≡ answerNumbers (s .refusal)) × (cellOf words ≡ s .cell)
 
 abbrev pub lineFields : ℕ → ℕ → Numbers → TdmaLine
 lineFields arfcn owner n =

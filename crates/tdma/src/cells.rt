@@ -1,13 +1,12 @@
-// The calls of the cell. A cell goes in and comes back by value.
+// The calls of the cell, whose words the caller lends.
 use crate::refusal_number;
 use crate::refusal_value;
 use answers::Answer;
 use cell::Aired;
-use cell::Cell;
-use cell::Changed;
 use cell::Found;
 use cell::OnAir;
 use cell::Sought;
+use cell::words::WORDS;
 use frame_map::Blocks;
 use frame_map::Burst;
 use frame_map::Content;
@@ -15,21 +14,22 @@ use frame_map::Kind;
 use paging::Paged;
 ghost use mathlib.Core.Path.{_≡_};
 ghost use Rattle.answers.specs.Outcome.{accepted};
+ghost use Rattle.answers.specs.Refusals.{refusalIn};
 ghost use Rattle.frame_map.specs.Channels.{kindNumber};
 ghost use Rattle.frame_map.specs.Map.{inBlocks};
 ghost use Rattle.frame_map.specs.Numbers.{noNumbers, standingNumbers};
-ghost use Rattle.cell.specs.Calls.{startOf, openOf, closeOf, seizeOf, releaseOf, changed};
+ghost use Rattle.cell.specs.Calls.{startOf, openOf, closeOf, seizeOf, releaseOf};
 ghost use Rattle.cell.specs.OnAir.{lineOf, slotIn};
 ghost use Rattle.cell.specs.Paging.{pageOf};
 ghost use Rattle.cell.specs.Who.{whoOf};
-ghost use Rattle.tdma.specs.Cells.{changedNumbers, lineFields, lineNumbers, matchNumbers, nobody, whoNumbers, pageNumbers};
+ghost use Rattle.cell.specs.Words.{cellOf};
+ghost use Rattle.tdma.specs.Cells.{answerNumbers, Left, lineFields, lineNumbers, matchNumbers, nobody, whoNumbers, pageNumbers};
 
-// The refusal, for 9 the line in the way, and the cell after the call.
+// The refusal, and for 9 the line in the way.
 #[repr(C)]
 pub struct TdmaChanged {
     pub refusal: u32,
     pub line: u32,
-    pub cell: Cell,
 }
 
 // The ARFCN and the owner; the channel, 0 for idle, its subchannel, and as many blocks and places as `blocks` says.
@@ -65,37 +65,40 @@ pub struct TdmaPage {
     pub frame: u32,
 }
 
-fn changed_numbers(c: Changed) -> TdmaChanged
-    ensures { λ r. ⌜ r ≡ changedNumbers (changed c) ⌝ }
+fn changed_numbers(a: Answer) -> TdmaChanged
+    ensures { λ r. ⌜ r ≡ answerNumbers (refusalIn a) ⌝ }
 {
-    let answer = c.answer;
-    let cell = c.cell;
-    match answer {
+    match a {
         Answer::Accepted => TdmaChanged {
             refusal: 0,
             line: 0,
-            cell,
         },
         Answer::Refused(e) => TdmaChanged {
             refusal: refusal_number(e),
             line: refusal_value(e),
-            cell,
         },
     }
 }
 
 // A cell with all lines closed.
 #[no_mangle]
-pub extern "C" fn tdma_start(ca: &[u16], c0: u32, bcc: u32, ag: u32, p: u32) -> TdmaChanged
-    ensures { λ r. ⌜ r ≡ changedNumbers (startOf (now (ca .entry)) c0 bcc ag p) ⌝ }
+pub extern "C" fn tdma_start(
+    cell: &mut [u32; WORDS],
+    ca: &[u16],
+    c0: u32,
+    bcc: u32,
+    ag: u32,
+    p: u32,
+) -> TdmaChanged
+    ensures { λ r. ⌜ Left r (now (cell .exit)) (startOf (now (ca .entry)) c0 bcc ag p) ⌝ }
 {
-    changed_numbers(cell::start(ca, c0, bcc, ag, p))
+    changed_numbers(cell::start(cell, ca, c0, bcc, ag, p))
 }
 
 // The line gets the six values.
 #[no_mangle]
 pub extern "C" fn tdma_open(
-    cell: Cell,
+    cell: &mut [u32; WORDS],
     line: u32,
     tn: u32,
     mask: u64,
@@ -104,30 +107,40 @@ pub extern "C" fn tdma_open(
     combination: u32,
     tsc: u32,
 ) -> TdmaChanged
-    ensures { λ r. ⌜ r ≡ changedNumbers (openOf cell line (record { tn = tn; mask = mask; hsn = hsn; maio = maio; combination = combination; tsc = tsc })) ⌝ }
+    ensures { λ r. ⌜ Left r (now (cell .exit)) (openOf (cellOf (now (cell .entry))) line (record { tn = tn; mask = mask; hsn = hsn; maio = maio; combination = combination; tsc = tsc })) ⌝ }
 {
     changed_numbers(cell::open(cell, line, tn, mask, hsn, maio, combination, tsc))
 }
 
 #[no_mangle]
-pub extern "C" fn tdma_close(cell: Cell, line: u32) -> TdmaChanged
-    ensures { λ r. ⌜ r ≡ changedNumbers (closeOf cell line) ⌝ }
+pub extern "C" fn tdma_close(cell: &mut [u32; WORDS], line: u32) -> TdmaChanged
+    ensures { λ r. ⌜ Left r (now (cell .exit)) (closeOf (cellOf (now (cell .entry))) line) ⌝ }
 {
     changed_numbers(cell::close(cell, line))
 }
 
 // The subchannel, if it is free, gets the owner.
 #[no_mangle]
-pub extern "C" fn tdma_seize(cell: Cell, line: u32, subchannel: u32, owner: u32) -> TdmaChanged
-    ensures { λ r. ⌜ r ≡ changedNumbers (seizeOf cell line subchannel owner) ⌝ }
+pub extern "C" fn tdma_seize(
+    cell: &mut [u32; WORDS],
+    line: u32,
+    subchannel: u32,
+    owner: u32,
+) -> TdmaChanged
+    ensures { λ r. ⌜ Left r (now (cell .exit)) (seizeOf (cellOf (now (cell .entry))) line subchannel owner) ⌝ }
 {
     changed_numbers(cell::seize(cell, line, subchannel, owner))
 }
 
 // The subchannel, if this owner holds it, is free again.
 #[no_mangle]
-pub extern "C" fn tdma_release(cell: Cell, line: u32, subchannel: u32, owner: u32) -> TdmaChanged
-    ensures { λ r. ⌜ r ≡ changedNumbers (releaseOf cell line subchannel owner) ⌝ }
+pub extern "C" fn tdma_release(
+    cell: &mut [u32; WORDS],
+    line: u32,
+    subchannel: u32,
+    owner: u32,
+) -> TdmaChanged
+    ensures { λ r. ⌜ Left r (now (cell .exit)) (releaseOf (cellOf (now (cell .entry))) line subchannel owner) ⌝ }
 {
     changed_numbers(cell::release(cell, line, subchannel, owner))
 }
@@ -212,8 +225,8 @@ fn slot_numbers(a: OnAir) -> TdmaLine
 
 // What the line sends in a frame, downlink (0) or uplink (1).
 #[no_mangle]
-pub extern "C" fn tdma_line(cell: Cell, line: u32, frame: u32, direction: u32) -> TdmaLine
-    ensures { λ r. ⌜ r ≡ lineNumbers (lineOf cell line frame direction) ⌝ }
+pub extern "C" fn tdma_line(cell: &[u32; WORDS], line: u32, frame: u32, direction: u32) -> TdmaLine
+    ensures { λ r. ⌜ r ≡ lineNumbers (lineOf (cellOf (now (cell .entry))) line frame direction) ⌝ }
 {
     match cell::line(cell, line, frame, direction) {
         Aired::Line(a) => slot_numbers(a),
@@ -247,8 +260,14 @@ fn no_line(refusal: u32) -> TdmaWho
 
 // Who is on the air in a timeslot, on an ARFCN and in a frame, downlink (0) or uplink (1).
 #[no_mangle]
-pub extern "C" fn tdma_who(cell: Cell, tn: u32, arfcn: u32, frame: u32, direction: u32) -> TdmaWho
-    ensures { λ r. ⌜ r ≡ whoNumbers (whoOf cell tn arfcn frame direction) ⌝ }
+pub extern "C" fn tdma_who(
+    cell: &[u32; WORDS],
+    tn: u32,
+    arfcn: u32,
+    frame: u32,
+    direction: u32,
+) -> TdmaWho
+    ensures { λ r. ⌜ r ≡ whoNumbers (whoOf (cellOf (now (cell .entry))) tn arfcn frame direction) ⌝ }
 {
     match cell::who(cell, tn, arfcn, frame, direction) {
         Sought::Line(f) => found_numbers(f),
@@ -259,8 +278,8 @@ pub extern "C" fn tdma_who(cell: Cell, tn: u32, arfcn: u32, frame: u32, directio
 
 // Where and when a phone with this IMSI is paged.
 #[no_mangle]
-pub extern "C" fn tdma_page(cell: Cell, digits: &[u8], frame: u32) -> TdmaPage
-    ensures { λ r. ⌜ r ≡ pageNumbers (pageOf cell (now (digits .entry)) frame) ⌝ }
+pub extern "C" fn tdma_page(cell: &[u32; WORDS], digits: &[u8], frame: u32) -> TdmaPage
+    ensures { λ r. ⌜ r ≡ pageNumbers (pageOf (cellOf (now (cell .entry))) (now (digits .entry)) frame) ⌝ }
 {
     match cell::page(cell, digits, frame) {
         Paged::Block(b) => TdmaPage {

@@ -1,7 +1,7 @@
--- `release` meets its contract: a subchannel of another owner is refused, one of this owner is free again. Assumes nothing.
-use borrow.Author.Needs.{needs}
+-- `release` meets its contract: the owner passes it on to 0. Assumes nothing.
 use Rattle.cell.specs.Calls.{releaseOf}
 use Rattle.cell.specs.Helpers.{passOf}
+use borrow.Author.Needs.{needs}
 use Rattle.cell.proofs.release.Statement.{statement}
 use Rattle.cell.proofs.release.Tie as tie
 
@@ -9,7 +9,7 @@ pass-requires : tie.Need-pass-requires
 pass-requires c κs = search needs
 
 returns : tie.Need-returns
-unfolding releaseOf passOf
+unfolding passOf releaseOf
 returns c = c .pass .ensures
 
 pub release-spec : {M : Type 1} → statement M

@@ -1,7 +1,7 @@
--- `seize` meets its contract: a held subchannel is refused, a free one gets the owner. Assumes nothing.
-use borrow.Author.Needs.{needs}
+-- `seize` meets its contract: free is the owner 0. Assumes nothing.
 use Rattle.cell.specs.Calls.{seizeOf}
 use Rattle.cell.specs.Helpers.{passOf}
+use borrow.Author.Needs.{needs}
 use Rattle.cell.proofs.seize.Statement.{statement}
 use Rattle.cell.proofs.seize.Tie as tie
 
@@ -9,7 +9,7 @@ pass-requires : tie.Need-pass-requires
 pass-requires c κs = search needs
 
 returns : tie.Need-returns
-unfolding seizeOf passOf
+unfolding passOf seizeOf
 returns c = c .pass .ensures
 
 pub seize-spec : {M : Type 1} → statement M

@@ -1,5 +1,5 @@
 -- `start` meets its contract: its tests are the causes, in order, and then the cell has the list as its CA. Assumes nothing.
-use Prim.Native.Nat.{ℕ}
+use Prim.Native.Nat.{ℕ, _≤_}
 use mathlib.Core.Path.{_≡_, sym, ap, _∙_}
 use mathlib.Core.Bool.{true, not}
 use mathlib.Core.List.{List}
@@ -9,25 +9,19 @@ use lib.ListN.{length, getD}
 use borrow.Author.Needs.{needs}
 use borrow.Author.Tests.{lt-ltb, le-ltb, not-false}
 use Rattle.answers.specs.Outcome.{Cause}
+use Rattle.answers.specs.declared.Answer.the-variants.{Accepted}
 use Rattle.answers.proofs.Decide.{refused-by, accepted-by}
 use Rattle.answers.proofs.Search.{any-least}
 use Rattle.answers.proofs.Tests.{or-left, or-right, or-none}
 use Rattle.hopping.specs.Allocation.{isAllocation}
 use Rattle.hopping.proofs.Apart.{at-most-64}
-use Rattle.answers.specs.declared.Answer.the-variants.{Accepted}
-use Rattle.cell.specs.declared.Cell.{Cell}
-use Rattle.cell.specs.State.{tabulate, closedLine, empty}
+use Rattle.cell.specs.Words.{cellOf}
 use Rattle.cell.specs.Calls.{step, changed, lists, startCauses, refusedCell, startOf}
 use Rattle.cell.proofs.start.Statement.{statement}
 use Rattle.cell.proofs.start.Tie as tie
 
 abbrev causes : tie.Start → List Cause
 causes s = startCauses (s .args .ca .now) (s .args .c0) (s .args .bcc) (s .args .ag) (s .args .p)
-
--- equal lists make equal cells
-same-list : {a b : List ℕ} (l c0 bcc ag p : ℕ) {c : Cell} → c ≡ record { ca = a; length = l; c0 = c0; bcc = bcc; ag = ag; p = p; lines = tabulate 64 (λ n. closedLine) } → a ≡ b
-    → c ≡ record { ca = b; length = l; c0 = c0; bcc = bcc; ag = ag; p = p; lines = tabulate 64 (λ n. closedLine) }
-same-list l c0 bcc ag p e q = rw q at e
 
 -- ---- what is known past each test
 
@@ -43,8 +37,6 @@ found c =
     let x = start1 (c .before) .args in
     any-least (λ (k : ℕ). eqb (getD (x .ca .now) k 0) (x .c0)) (length (x .ca .now)) ∙ ap (λ (k : ℕ). ltb k (length (x .ca .now))) (sym (c .find .ensures))
 
--- ---- the needs
-
 is-allocation-requires : tie.Need-is-allocation-requires
 is-allocation-requires c κs = search needs
 
@@ -54,9 +46,8 @@ refuse-start-requires c κs = search needs
 returns : tie.Need-returns
 unfolding startOf
 returns c =
-    let s = c .before .before .before .before in
-    c .refuse-start .ensures
-    ∙ ap (step refusedCell) (refused-by _ 0 (causes s) (ap not (sym (c .before .before .is-allocation .ensures)) ∙ c .before .if1 .taken))
+    let s = c .before .before .before .before .before in
+    c .refuse-start .ensures ∙ ap (step refusedCell) (refused-by _ 0 (causes s) (ap not (sym (c .before .before .before .is-allocation .ensures)) ∙ c .before .before .if1 .taken))
 
 find-requires : tie.Need-find-requires
 find-requires c κs = search needs
@@ -67,10 +58,9 @@ refuse-start-requires-2 c κs = search needs
 returns-2 : tie.Need-returns-2
 unfolding startOf
 returns-2 c =
-    let c1 = c .before .before .before in
-    let s = start1 c1 in
-    let missing = ap not (found (c .before .before) ∙ le-ltb _ _ (c .before .if2 .taken)) in
-    c .refuse-start2 .ensures ∙ ap (step refusedCell) (refused-by _ 1 (causes s) (ap not (valid c1), or-left _ missing))
+    let s = c .before .before .before .before .before .before .before in
+    let missing = ap not (found (c .before .before .before) ∙ le-ltb _ _ (c .before .before .if2 .taken)) in
+    c .refuse-start2 .ensures ∙ ap (step refusedCell) (refused-by _ 1 (causes s) (ap not (valid (c .before .before .before .before)), or-left _ missing))
 
 refuse-start-requires-3 : tie.Need-refuse-start-requires-3
 refuse-start-requires-3 c κs = search needs
@@ -78,44 +68,19 @@ refuse-start-requires-3 c κs = search needs
 returns-3 : tie.Need-returns-3
 unfolding startOf
 returns-3 c =
-    let c1 = c .before .before .before .before in
-    let s = start1 c1 in
+    let s = c .before .before .before .before .before .before .before .before in
     c .refuse-start3 .ensures
-    ∙ ap (step refusedCell)
-    (refused-by _ 1 (causes s) (ap not (valid c1), or-right (not (lists (s .args .ca .now) (s .args .c0))) (c .before .if3 .taken)))
+    ∙ ap (step refusedCell) (refused-by _ 1 (causes s) (ap not (valid (c .before .before .before .before .before)), or-right (not (lists (s .args .ca .now) (s .args .c0))) (c .before .before .if3 .taken)))
 
-cast-length : tie.Need-cast-length
-cast-length c = omega (arith, at-most-64 _ (valid (c .before .before .before)))
-
-padded-requires : tie.Need-padded-requires
-padded-requires c κs = search needs
-
-empty-cell-requires : tie.Need-empty-cell-requires
-empty-cell-requires c κs = search needs
+put-start-requires : tie.Need-put-start-requires
+put-start-requires c κs = (c .put-start-arg .given .0 .1, at-most-64 _ (valid (c .before .before .before .before)))
 
 returns-4 : tie.Need-returns-4
-unfolding startOf empty
+unfolding startOf
 returns-4 c =
-    let c2 = c .before .before .before in
-    let c1 = c2 .before .before in
-    let s = start1 c1 in
-    let present = ap not (found (c2 .before) ∙ lt-ltb _ _ (c2 .if2 .left)) in
-    ap (λ (x : Cell). changed (record { answer = Accepted; cell = x })) (same-list _ _ _ _ _ (c .empty-cell .ensures) (c .before .padded .ensures))
-    ∙ ap (step refusedCell) (accepted-by _ (causes s) (ap not (valid c1), (or-none present (c .before .before .if3 .left), tt)))
+    let s = c .before .before .before .before .before .before .before .before in
+    let present = ap not (found (c .before .before .before .before) ∙ lt-ltb _ _ (c .before .before .before .if2 .left)) in
+    ap (changed Accepted) (c .put-start .ensures) ∙ ap (step refusedCell) (accepted-by _ (causes s) (ap not (valid (c .before .before .before .before .before)), (or-none present (c .before .before .if3 .left), tt)))
 
 pub start-spec : {M : Type 1} → statement M
-start-spec =
-    tie.close
-    (tie.spec
-    is-allocation-requires
-    refuse-start-requires
-    returns
-    find-requires
-    refuse-start-requires-2
-    returns-2
-    refuse-start-requires-3
-    returns-3
-    cast-length
-    padded-requires
-    empty-cell-requires
-    returns-4)
+start-spec = tie.close (tie.spec is-allocation-requires refuse-start-requires returns find-requires refuse-start-requires-2 returns-2 refuse-start-requires-3 returns-3 put-start-requires returns-4)

@@ -10,7 +10,8 @@ use Rattle.answers.specs.Outcome.{accepted}
 use Rattle.answers.specs.Search.{least}
 use Rattle.answers.proofs.Decide.{refused-by, accepted-by}
 use Rattle.answers.proofs.Search.{any-least}
-use Rattle.cell.specs.declared.Cell.{Cell}
+use Rattle.cell.specs.State.{Cell}
+use Rattle.cell.specs.Words.{cellOf}
 use Rattle.cell.specs.OnAir.{Slot}
 use Rattle.cell.specs.Who.{lineIsOn, matchAt, whoCauses, matchOf, whoOf}
 use Rattle.cell.proofs.who.Statement.{statement}
@@ -32,7 +33,9 @@ module _ (c : Cell) (tn arfcn fn direction n : ℕ) (e : n ≡ least (lineIsOn c
 
 returns : tie.Need-returns
 unfolding whoOf
-returns c = let x = c .before .args in refused-by _ 0 (whoCauses (x .tn) (x .arfcn) (x .number) (x .direction)) (c .if1 .taken)
+returns c =
+    let x = c .before .args in
+    refused-by _ 0 (whoCauses (x .tn) (x .arfcn) (x .number) (x .direction)) (c .if1 .taken)
 
 first-on-requires : tie.Need-first-on-requires
 first-on-requires c κs = search needs
@@ -41,17 +44,11 @@ returns-2 : tie.Need-returns-2
 unfolding whoOf
 returns-2 c =
     let x = c .before .before .before .args in
-    ap accepted (nobody (x .t1) (x .tn) (x .arfcn) (x .number) (x .direction) _ (c .before .first-on .ensures) (c .if2 .taken))
+    ap accepted (nobody (cellOf (x .cell .now)) (x .tn) (x .arfcn) (x .number) (x .direction) _ (c .before .first-on .ensures) (c .if2 .taken))
     ∙ accepted-by _ (whoCauses (x .tn) (x .arfcn) (x .number) (x .direction)) (c .before .before .if1 .left, tt)
 
 cast-on-air : tie.Need-cast-on-air
 cast-on-air c = search needs
-
-mul-on-air : tie.Need-mul-on-air
-mul-on-air c = search needs
-
-element-copy-out-on-air : tie.Need-element-copy-out-on-air
-element-copy-out-on-air c = search needs
 
 on-air-requires : tie.Need-on-air-requires
 on-air-requires c κs = search needs
@@ -59,21 +56,11 @@ on-air-requires c κs = search needs
 returns-3 : tie.Need-returns-3
 unfolding whoOf
 returns-3 c =
-    let x = c .before .before .before .before .before .args in
-    let n = c .before .before .before .first-on .result in
+    let x = c .before .before .before .before .args in
+    let n = c .before .before .first-on .result in
     ap (λ (s : Slot). accepted (some (record { line = n; slot = s }))) (c .on-air .ensures)
-    ∙ (ap accepted (somebody (x .t1) (x .tn) (x .arfcn) (x .number) (x .direction) n (c .before .before .before .first-on .ensures) (c .before .before .if2 .left))
-    ∙ accepted-by _ (whoCauses (x .tn) (x .arfcn) (x .number) (x .direction)) (c .before .before .before .before .if1 .left, tt))
+    ∙ (ap accepted (somebody (cellOf (x .cell .now)) (x .tn) (x .arfcn) (x .number) (x .direction) n (c .before .before .first-on .ensures) (c .before .if2 .left))
+    ∙ accepted-by _ (whoCauses (x .tn) (x .arfcn) (x .number) (x .direction)) (c .before .before .before .if1 .left, tt))
 
 pub who-spec : {M : Type 1} → statement M
-who-spec =
-    tie.close
-    (tie.spec
-    returns
-    first-on-requires
-    returns-2
-    cast-on-air
-    mul-on-air
-    element-copy-out-on-air
-    on-air-requires
-    returns-3)
+who-spec = tie.close (tie.spec returns first-on-requires returns-2 cast-on-air on-air-requires returns-3)

@@ -1,10 +1,27 @@
--- `air::arfcn` meets its contract: the entry at the position, and 0 where there is none. Assumes nothing.
-use mathlib.Core.Path.{sym, ap, _∙_}
-use borrow.Author.Needs.{needs}
-use Rattle.hopping.specs.Hopping.{positionSays}
+-- `air::arfcn` meets its contract: the entry is the one at the position. Assumes nothing.
+use Prim.Native.Nat.{ℕ}
+use mathlib.Core.Path.{_≡_, sym, ap, _∙_}
+use Rattle.hopping.specs.Hopping.{positionOf, positionSays}
+use Rattle.cell.specs.Words.{cellOf}
 use Rattle.cell.specs.OnAir.{entryAt}
+use borrow.Author.Needs.{needs}
 use Rattle.cell.proofs.air.arfcn.Statement.{statement}
 use Rattle.cell.proofs.air.arfcn.Tie as tie
+
+same-position : (fn : ℕ) {l m h a l′ m′ h′ a′ : ℕ} → l ≡ l′ → m ≡ m′ → h ≡ h′ → a ≡ a′ → positionOf l m h a fn ≡ positionOf l′ m′ h′ a′ fn
+same-position fn p q r s = cc
+
+mask-at-requires : tie.Need-mask-at-requires
+mask-at-requires c κs = search needs
+
+length-requires : tie.Need-length-requires
+length-requires c κs = search needs
+
+hsn-at-requires : tie.Need-hsn-at-requires
+hsn-at-requires c κs = search needs
+
+maio-at-requires : tie.Need-maio-at-requires
+maio-at-requires c κs = search needs
 
 position-requires : tie.Need-position-requires
 position-requires c κs = search needs
@@ -20,11 +37,15 @@ enum-told c = search needs
 
 returns : tie.Need-returns
 returns c =
-    c .entry .ensures
-    ∙ ap (entryAt _) (ap positionSays (sym (c .before .before .p .given .1)) ∙ c .before .before .before .before .position .ensures)
+    let ca = cellOf (c .before .before .before .before .before .before .before .before .before .args .cell .now) .ca in
+    let e = same-position (c .before .before .before .before .before .before .before .before .before .args .number) (c .before .before .before .before .before .before .before .length .ensures) (c .before .before .before .before .before .before .before .before .mask-at .ensures) (c .before .before .before .before .before .before .hsn-at .ensures) (c .before .before .before .before .before .maio-at .ensures) in
+    c .entry .ensures ∙ ap (λ x. entryAt ca (positionSays x)) (sym (c .before .before .p .given .1)) ∙ ap (entryAt ca) (c .before .before .before .before .position .ensures ∙ e)
 
 returns-2 : tie.Need-returns-2
-returns-2 c = ap (entryAt _) (ap positionSays (sym (c .enum-told .given .1)) ∙ c .before .before .position .ensures)
+returns-2 c =
+    let ca = cellOf (c .before .before .before .before .before .before .before .args .cell .now) .ca in
+    let e = same-position (c .before .before .before .before .before .before .before .args .number) (c .before .before .before .before .before .length .ensures) (c .before .before .before .before .before .before .mask-at .ensures) (c .before .before .before .before .hsn-at .ensures) (c .before .before .before .maio-at .ensures) in
+    ap (λ x. entryAt ca (positionSays x)) (sym (c .enum-told .given .1)) ∙ ap (entryAt ca) (c .before .before .position .ensures ∙ e)
 
 pub arfcn-spec : {M : Type 1} → statement M
-arfcn-spec = tie.close (tie.spec position-requires enum-known-p entry-requires enum-told returns returns-2)
+arfcn-spec = tie.close (tie.spec mask-at-requires length-requires hsn-at-requires maio-at-requires position-requires enum-known-p entry-requires enum-told returns returns-2)

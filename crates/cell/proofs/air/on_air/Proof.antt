@@ -1,16 +1,25 @@
 -- `air::on_air` meets its contract: the ARFCN, the content and the owner are the definitions'. Assumes nothing.
-use mathlib.Core.Path.{ap, _∙_}
+use Prim.Native.Nat.{ℕ}
+use mathlib.Core.Path.{_≡_, ap, _∙_}
+use Rattle.frame_map.specs.Map.{mapOf}
+use Rattle.cell.specs.State.{lineAt, ownerAt}
+use Rattle.cell.specs.Words.{cellOf}
+use Rattle.cell.specs.OnAir.{inFrame, ownerOf, slotOf}
 use borrow.Author.Needs.{needs}
-use Rattle.cell.specs.State.{ownerAt}
-use Rattle.cell.specs.OnAir.{ownerOf, slotOf}
 use Rattle.cell.proofs.air.on_air.Statement.{statement}
 use Rattle.cell.proofs.air.on_air.Tie as tie
 
+same-map : (fn direction : ℕ) {k t k′ t′ : ℕ} → k ≡ k′ → t ≡ t′ → inFrame (mapOf k t fn direction) ≡ inFrame (mapOf k′ t′ fn direction)
+same-map fn direction p q = cc
+
+combination-at-requires : tie.Need-combination-at-requires
+combination-at-requires c κs = search needs
+
+tn-at-requires : tie.Need-tn-at-requires
+tn-at-requires c κs = search needs
+
 content-requires : tie.Need-content-requires
 content-requires c κs = search needs
-
-slice-aggregate-arfcn : tie.Need-slice-aggregate-arfcn
-slice-aggregate-arfcn c = search needs
 
 arfcn-requires : tie.Need-arfcn-requires
 arfcn-requires c κs = search needs
@@ -20,7 +29,12 @@ owner-requires c κs = search needs
 
 returns : tie.Need-returns
 unfolding slotOf
-returns c = let o = c .owner .ensures ∙ ap (ownerOf (ownerAt (c .before .before .before .before .before .args .l))) (c .before .before .before .before .content .ensures) in cc
+returns c =
+    let x = c .before .before .before .before .before .args in
+    let m = c .before .before .content .ensures ∙ same-map (x .number) (x .direction) (c .before .before .before .before .combination-at .ensures) (c .before .before .before .tn-at .ensures) in
+    let o = c .owner .ensures ∙ ap (ownerOf (ownerAt (lineAt (cellOf (x .cell .now)) (x .n)))) m in
+    let a = c .before .arfcn .ensures in
+    cc
 
 pub on-air-spec : {M : Type 1} → statement M
-on-air-spec = tie.close (tie.spec content-requires slice-aggregate-arfcn arfcn-requires owner-requires returns)
+on-air-spec = tie.close (tie.spec combination-at-requires tn-at-requires content-requires arfcn-requires owner-requires returns)

@@ -1,17 +1,18 @@
--- `air::owner` meets its contract: idle and a common part have no owner, any other has its subchannel's. Assumes nothing.
+-- `air::owner` meets its contract: a common part and idle have none, and a subchannel has the line's. Assumes nothing.
 use Prim.Native.Nat.{ℕ}
 use mathlib.Core.Path.{_≡_, refl, sym, ap, _∙_}
 use mathlib.Core.Bool.{Bool, true, false, cond}
-use borrow.Author.Needs.{needs}
 use Rattle.frame_map.specs.declared.Kind.{Kind}
 use Rattle.frame_map.specs.declared.Burst.{Burst}
-use Rattle.frame_map.specs.declared.Content.the-variants.{Channel}
 use Rattle.frame_map.specs.declared.Blocks.{Blocks}
 use Rattle.frame_map.specs.declared.Blocks.the-variants.{One, Two}
+use Rattle.frame_map.specs.declared.Content.the-variants.{Channel}
 use Rattle.frame_map.specs.Channels.{isCommon}
-use Rattle.frame_map.specs.Map.{inBlocks, carried}
-use Rattle.cell.specs.State.{ownerAt}
+use Rattle.frame_map.specs.Map.{carried, inBlocks}
+use Rattle.cell.specs.State.{lineAt, ownerAt}
+use Rattle.cell.specs.Words.{cellOf}
 use Rattle.cell.specs.OnAir.{ownerOf}
+use borrow.Author.Needs.{needs}
 use Rattle.cell.proofs.air.owner.Statement.{statement}
 use Rattle.cell.proofs.air.owner.Tie as tie
 
@@ -36,7 +37,9 @@ enum-told c = search needs
 
 returns : tie.Need-returns
 unfolding ownerOf
-returns c = ap (λ x. ownerOf (ownerAt (c .before .before .args .l)) (carried x)) (sym (c .enum-told .given .1))
+returns c =
+    let x = c .before .before .args in
+    ap (λ y. ownerOf (ownerAt (lineAt (cellOf (x .cell .now)) (x .n))) (carried y)) (sym (c .enum-told .given .1))
 
 is-common-requires : tie.Need-is-common-requires
 is-common-requires c κs = search needs
@@ -44,8 +47,8 @@ is-common-requires c κs = search needs
 returns-2 : tie.Need-returns-2
 returns-2 c =
     let x = c .before .before .before .before .before .args in
-    common (ownerAt (x .l)) (c .before .before .before .content .given .0 .0) (sym (c .before .is-common .ensures) ∙ c .if1 .taken)
-    ∙ ap (λ y. ownerOf (ownerAt (x .l)) (carried y)) (sym (c .before .before .before .content .given .1))
+    let owners = ownerAt (lineAt (cellOf (x .cell .now)) (x .n)) in
+    common owners (c .before .before .before .content .given .0 .0) (sym (c .before .is-common .ensures) ∙ c .if1 .taken) ∙ ap (λ y. ownerOf owners (carried y)) (sym (c .before .before .before .content .given .1))
 
 owner-at-requires : tie.Need-owner-at-requires
 owner-at-requires c κs = search needs
@@ -53,18 +56,8 @@ owner-at-requires c κs = search needs
 returns-3 : tie.Need-returns-3
 returns-3 c =
     let x = c .before .before .before .before .before .before .args in
-    c .owner-at .ensures
-    ∙ (held (ownerAt (x .l)) (c .before .before .before .before .content .given .0 .0) (sym (c .before .before .is-common .ensures) ∙ c .before .if1 .left)
-    ∙ ap (λ y. ownerOf (ownerAt (x .l)) (carried y)) (sym (c .before .before .before .before .content .given .1)))
+    let owners = ownerAt (lineAt (cellOf (x .cell .now)) (x .n)) in
+    c .owner-at .ensures ∙ held owners (c .before .before .before .before .content .given .0 .0) (sym (c .before .before .is-common .ensures) ∙ c .before .if1 .left) ∙ ap (λ y. ownerOf owners (carried y)) (sym (c .before .before .before .before .content .given .1))
 
 pub owner-spec : {M : Type 1} → statement M
-owner-spec =
-    tie.close
-    (tie.spec
-    enum-known-content
-    enum-told
-    returns
-    is-common-requires
-    returns-2
-    owner-at-requires
-    returns-3)
+owner-spec = tie.close (tie.spec enum-known-content enum-told returns is-common-requires returns-2 owner-at-requires returns-3)

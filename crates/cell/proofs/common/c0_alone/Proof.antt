@@ -1,7 +1,7 @@
 -- `common::c0_alone` meets its contract: the count of ones is N. Assumes nothing.
 use mathlib.Core.Path.{refl}
-use borrow.Author.Needs.{needs}
 use Rattle.hopping.proofs.Bits.{count-ones}
+use borrow.Author.Needs.{needs}
 use Rattle.cell.proofs.common.c0_alone.Statement.{statement}
 use Rattle.cell.proofs.common.c0_alone.Tie as tie
 

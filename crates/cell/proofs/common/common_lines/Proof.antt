@@ -3,12 +3,12 @@ use Prim.Native.Nat.{ℕ, _+_, _-_, _≤_}
 use mathlib.Core.Path.{_≡_, refl, ap, _∙_}
 use mathlib.Core.Bool.{Bool, cond}
 use native.Mathlib.Omega.{arith}
-use borrow.Author.Needs.{needs}
 use Rattle.answers.specs.Search.{countBelow}
 use Rattle.answers.proofs.Count.{one-le, count-next}
-use Rattle.cell.specs.declared.Cell.{Cell}
-use Rattle.cell.specs.State.{lineAt}
-use Rattle.cell.specs.Calls.{isCommonLine}
+use Rattle.cell.specs.State.{Cell, lineAt}
+use Rattle.cell.specs.Words.{cellOf}
+use Rattle.cell.specs.Calls.{isCommonCombination, isCommonLine}
+use borrow.Author.Needs.{needs}
 use Rattle.cell.proofs.common.common_lines.Statement.{statement}
 use Rattle.cell.proofs.common.common_lines.Tie as tie
 
@@ -23,7 +23,7 @@ more : (test : ℕ → Bool) (n : ℕ) {count k : ℕ} → count ≡ countBelow 
 more test n e q = let s = count-next test n in omega (arith, e, q, s)
 
 abbrev Inv-loop : tie.InvT-loop
-Inv-loop cell count₀ n₀ count n = (n ≤ 64) × (count ≤ n) × (count ≡ countBelow (common cell) n)
+Inv-loop cell count₀ n₀ count n = (n ≤ 64) × (count ≤ n) × (count ≡ countBelow (common (cellOf cell)) n)
 
 abbrev μ-loop : tie.MeasureT-loop
 μ-loop cell count₀ n₀ count n = 64 - n
@@ -32,11 +32,8 @@ loop-holds : tie.Need-loop-holds Inv-loop μ-loop
 unfolding countBelow
 loop-holds c = (search needs, search needs, refl)
 
-mul-is-common : tie.Need-mul-is-common Inv-loop μ-loop
-mul-is-common c = search needs
-
-element-copy-out-is-common : tie.Need-element-copy-out-is-common Inv-loop μ-loop
-element-copy-out-is-common c = search needs
+combination-at-requires : tie.Need-combination-at-requires Inv-loop μ-loop
+combination-at-requires c κs = search needs
 
 is-common-requires : tie.Need-is-common-requires Inv-loop μ-loop
 is-common-requires c κs = search needs
@@ -55,29 +52,15 @@ loop-less c = search needs
 
 loop-again : tie.Need-loop-again Inv-loop μ-loop
 loop-again c =
-    let x = c .before .before .before .before .args in
-    let l = c .before .before .before .loop in
+    let l = c .before .before .before .before .loop in
     let o = at-most-one _ (c .before .is-common .result) (c .one-if .ensures) in
-    (search needs, omega (arith, l .inv .1, o), more (common (x .t1)) (l .n) (l .inv .2) (c .one-if .ensures ∙ ap (λ (b : Bool). cond b 1 0) (c .before .is-common .ensures)))
+    let e = c .before .is-common .ensures ∙ ap isCommonCombination (c .before .before .combination-at .ensures) in
+    (search needs, omega (arith, l .inv .1, o), more (common (cellOf (c .before .before .before .before .before .args .cell .now))) (l .n) (l .inv .2) (c .one-if .ensures ∙ ap (λ (b : Bool). cond b 1 0) e))
 
 returns : tie.Need-returns Inv-loop μ-loop
 returns c =
     let l = c .before .loop in
-    l .inv .2 ∙ ap (countBelow (common (c .before .before .args .t1))) (let e : l .n ≡ 64 = omega arith in e)
+    l .inv .2 ∙ ap (countBelow (common (cellOf (c .before .before .args .cell .now)))) (let e : l .n ≡ 64 = omega arith in e)
 
 pub common-lines-spec : {M : Type 1} → statement M
-common-lines-spec =
-    tie.close
-    (tie.spec
-    Inv-loop
-    μ-loop
-    loop-holds
-    mul-is-common
-    element-copy-out-is-common
-    is-common-requires
-    one-if-requires
-    add-count
-    add-n
-    loop-less
-    loop-again
-    returns)
+common-lines-spec = tie.close (tie.spec Inv-loop μ-loop loop-holds combination-at-requires is-common-requires one-if-requires add-count add-n loop-less loop-again returns)

@@ -3,10 +3,19 @@ use Prim.Native.Nat.{ℕ}
 use mathlib.Core.Path.{sym, ap, _∙_}
 use mathlib.Core.Bool.{_&&_}
 use lib.Dec.{eqb}
-use borrow.Author.Needs.{needs}
+use Rattle.cell.specs.State.{lineAt}
+use Rattle.cell.specs.Words.{cellOf}
+use Rattle.cell.specs.Calls.{isCommonCombination}
 use Rattle.cell.specs.Helpers.{wants}
+use borrow.Author.Needs.{needs}
 use Rattle.cell.proofs.common.is_wanted.Statement.{statement}
 use Rattle.cell.proofs.common.is_wanted.Tie as tie
+
+combination-at-requires : tie.Need-combination-at-requires
+combination-at-requires c κs = search needs
+
+tn-at-requires : tie.Need-tn-at-requires
+tn-at-requires c κs = search needs
 
 wide-requires : tie.Need-wide-requires
 wide-requires c κs = search needs
@@ -24,26 +33,21 @@ enum-known-w-2 : tie.Need-enum-known-w-2
 enum-known-w-2 c = search needs
 
 returns : tie.Need-returns
-returns c = c .is-common .ensures ∙ ap (λ w. wants w (c .before .before .before .before .args .l)) (sym (c .before .enum-told .given .1))
+returns c =
+    let x = c .before .before .before .before .before .before .args in
+    c .is-common .ensures ∙ ap isCommonCombination (c .before .before .before .before .before .combination-at .ensures) ∙ ap (λ w. wants w (lineAt (cellOf (x .cell .now)) (x .n))) (sym (c .before .enum-told .given .1))
 
 returns-2 : tie.Need-returns-2
-returns-2 c = ap (λ w. wants w (c .before .before .before .before .args .l)) (sym (c .before .w .given .1))
+returns-2 c =
+    let x = c .before .before .before .before .before .before .args in
+    ap (λ (k : ℕ). eqb k (c .before .w .given .0 .0)) (c .before .before .before .before .before .combination-at .ensures) ∙ ap (λ w. wants w (lineAt (cellOf (x .cell .now)) (x .n))) (sym (c .before .w .given .1))
 
 returns-3 : tie.Need-returns-3
 returns-3 c =
-    let l = c .before .before .before .before .args .l in
-    ap (λ (t : ℕ). eqb (l .combination) (c .before .w2 .given .0 .0) && eqb t (c .before .w2 .given .0 .1 .0)) (c .before .before .before .wide .ensures)
-    ∙ ap (λ w. wants w l) (sym (c .before .w2 .given .1))
+    let x = c .before .before .before .before .before .before .args in
+    ap (λ (k : ℕ). eqb k (c .before .w2 .given .0 .0) && eqb (c .before .before .before .wide .result) (c .before .w2 .given .0 .1 .0)) (c .before .before .before .before .before .combination-at .ensures)
+    ∙ ap (λ (t : ℕ). eqb (lineAt (cellOf (x .cell .now)) (x .n) .combination) (c .before .w2 .given .0 .0) && eqb t (c .before .w2 .given .0 .1 .0)) (c .before .before .before .wide .ensures ∙ c .before .before .before .before .tn-at .ensures)
+    ∙ ap (λ w. wants w (lineAt (cellOf (x .cell .now)) (x .n))) (sym (c .before .w2 .given .1))
 
 pub is-wanted-spec : {M : Type 1} → statement M
-is-wanted-spec =
-    tie.close
-    (tie.spec
-    wide-requires
-    enum-told
-    is-common-requires
-    enum-known-w
-    enum-known-w-2
-    returns
-    returns-2
-    returns-3)
+is-wanted-spec = tie.close (tie.spec combination-at-requires tn-at-requires wide-requires enum-told is-common-requires enum-known-w enum-known-w-2 returns returns-2 returns-3)

@@ -3,14 +3,14 @@ use Prim.Native.Nat.{ℕ}
 use mathlib.Core.Path.{_≡_, refl, sym, ap, _∙_}
 use mathlib.Core.Bool.{Bool, true, false, _||_}
 use lib.Dec.{eqb}
-use borrow.Author.Needs.{needs}
 use borrow.Author.Tests.{not-true}
 use Rattle.answers.specs.Outcome.{anyOf}
 use Rattle.answers.proofs.Decide.{any-combined}
 use Rattle.answers.proofs.Tests.{not-both}
-use Rattle.cell.specs.declared.Cell.{Cell}
-use Rattle.cell.specs.State.{Values}
+use Rattle.cell.specs.State.{Cell, Values}
+use Rattle.cell.specs.Words.{cellOf}
 use Rattle.cell.specs.Calls.{anyLine, standsIn, isCommonCombination, misplaced}
+use borrow.Author.Needs.{needs}
 use Rattle.cell.proofs.common.misplaced.Statement.{statement}
 use Rattle.cell.proofs.common.misplaced.Tie as tie
 
@@ -34,13 +34,19 @@ returns : tie.Need-returns
 returns c =
     let x = c .before .before .args in
     let v : Values = record { tn = x .tn; mask = x .mask; hsn = 0; maio = 0; combination = x .combination; tsc = x .tsc } in
-    another (x .cell) v (sym (c .before .is-common .ensures) ∙ not-true _ (c .if1 .taken))
+    another (cellOf (x .cell .now)) v (sym (c .before .is-common .ensures) ∙ not-true _ (c .if1 .taken))
 
 c0-alone-requires : tie.Need-c0-alone-requires
 c0-alone-requires c κs = search needs
 
+bcc-requires : tie.Need-bcc-requires
+bcc-requires c κs = search needs
+
 any-line-requires : tie.Need-any-line-requires
 any-line-requires c κs = search needs
+
+ag-requires : tie.Need-ag-requires
+ag-requires c κs = search needs
 
 any-line-requires-2 : tie.Need-any-line-requires-2
 any-line-requires-2 c κs = search needs
@@ -53,23 +59,10 @@ any-line-requires-3 c κs = search needs
 
 returns-2 : tie.Need-returns-2
 returns-2 c =
-    let b = c .before .before .before .before in
-    let d = b .before .before in
-    let x = d .before .before .before .args in
+    let x = c .before .before .before .before .before .before .before .before .before .args in
     let v : Values = record { tn = x .tn; mask = x .mask; hsn = 0; maio = 0; combination = x .combination; tsc = x .tsc } in
-    let six = c .any-line3 .ensures ∙ ap (λ (t : ℕ). anyLine (x .cell) (standsIn 6 t)) (c .before .lower .ensures) in
-    rw (d .before .before .is-common .ensures, d .c0-alone .ensures, b .any-line .ensures, c .before .before .any-line2 .ensures, six)
-    (any-combined (misplaced (x .cell) v))
+    let six = c .any-line3 .ensures ∙ ap (λ (t : ℕ). anyLine (cellOf (x .cell .now)) (standsIn 6 t)) (c .before .lower .ensures) in
+    rw (c .before .before .before .before .before .before .before .before .is-common .ensures, c .before .before .before .before .before .before .c0-alone .ensures, c .before .before .before .before .before .bcc .ensures, c .before .before .before .before .any-line .ensures, c .before .before .before .ag .ensures, c .before .before .any-line2 .ensures, six) (any-combined (misplaced (cellOf (x .cell .now)) v))
 
 pub misplaced-spec : {M : Type 1} → statement M
-misplaced-spec =
-    tie.close
-    (tie.spec
-    is-common-requires
-    returns
-    c0-alone-requires
-    any-line-requires
-    any-line-requires-2
-    lower-requires
-    any-line-requires-3
-    returns-2)
+misplaced-spec = tie.close (tie.spec is-common-requires returns c0-alone-requires bcc-requires any-line-requires ag-requires any-line-requires-2 lower-requires any-line-requires-3 returns-2)

@@ -1,11 +1,27 @@
 -- `common::needed` meets its contract: the search is for a 6 two timeslots higher. Assumes nothing.
 use Prim.Native.Nat.{ℕ, _+_}
-use mathlib.Core.Path.{ap, _∙_}
-use mathlib.Core.Bool.{Bool, _&&_, _||_}
+use mathlib.Core.Path.{_≡_, sym, ap, _∙_}
+use mathlib.Core.Bool.{Bool, true, false, _&&_, _||_}
+use lib.Dec.{eqb}
+use borrow.Author.Tests.{not-true, not-false}
+use Rattle.cell.specs.State.{lineAt}
+use Rattle.cell.specs.Words.{cellOf}
+use Rattle.cell.specs.Calls.{anyLine, standsIn}
 use borrow.Author.Needs.{needs}
-use Rattle.cell.specs.Calls.{anyLine, hasCombination, standsIn}
 use Rattle.cell.proofs.common.needed.Statement.{statement}
 use Rattle.cell.proofs.common.needed.Tie as tie
+
+unneeded : (a y : Bool) → a ≡ false → false ≡ (a && y)
+unneeded a y p = sym (ap (λ (t : Bool). t && y) p)
+
+decides : (a x y : Bool) → a ≡ true → x ≡ y → x ≡ (a && y)
+decides a x y p e = e ∙ sym (ap (λ (t : Bool). t && y) p)
+
+combination-at-requires : tie.Need-combination-at-requires
+combination-at-requires c κs = search needs
+
+tn-at-requires : tie.Need-tn-at-requires
+tn-at-requires c κs = search needs
 
 wide-requires : tie.Need-wide-requires
 wide-requires c κs = search needs
@@ -13,14 +29,19 @@ wide-requires c κs = search needs
 add-higher : tie.Need-add-higher
 add-higher c = search needs
 
+returns : tie.Need-returns
+returns c =
+    let e = ap (λ (k : ℕ). eqb k 4 || eqb k 6) (sym (c .before .before .before .combination-at .ensures)) in
+    unneeded _ _ (e ∙ not-true _ (c .if1 .taken))
+
 any-line-requires : tie.Need-any-line-requires
 any-line-requires c κs = search needs
 
-returns : tie.Need-returns
-returns c =
-    let x = c .before .before .before .before .args in
-    ap (λ (t : Bool). (hasCombination 4 (x .l) || hasCombination 6 (x .l)) && t)
-    (c .any-line .ensures ∙ ap (λ (t : ℕ). anyLine (x .cell) (standsIn 6 (t + 2))) (c .before .before .before .wide .ensures))
+returns-2 : tie.Need-returns-2
+returns-2 c =
+    let x = c .before .before .before .before .before .args in
+    let e = ap (λ (k : ℕ). eqb k 4 || eqb k 6) (sym (c .before .before .before .before .combination-at .ensures)) in
+    decides _ _ _ (e ∙ not-false _ (c .before .if1 .left)) (c .any-line .ensures ∙ ap (λ (t : ℕ). anyLine (cellOf (x .cell .now)) (standsIn 6 (t + 2))) (c .before .before .wide .ensures ∙ c .before .before .before .tn-at .ensures))
 
 pub needed-spec : {M : Type 1} → statement M
-needed-spec = tie.close (tie.spec wide-requires add-higher any-line-requires returns)
+needed-spec = tie.close (tie.spec combination-at-requires tn-at-requires wide-requires add-higher returns any-line-requires returns-2)

@@ -4,39 +4,30 @@ use mathlib.Core.Path.{_≡_, sym, _∙_}
 use mathlib.Core.Bool.{false}
 use native.Mathlib.Omega.{arith}
 use borrow.Author.Count.{below-none, below-more}
-use borrow.Author.Needs.{needs}
 use Rattle.answers.proofs.Search.{least-at, least-none}
+use Rattle.cell.specs.Words.{cellOf}
 use Rattle.cell.specs.Who.{lineIsOn}
+use borrow.Author.Needs.{needs}
 use Rattle.cell.proofs.seek.first_on.Statement.{statement}
 use Rattle.cell.proofs.seek.first_on.Tie as tie
 
 abbrev Inv-loop : tie.InvT-loop
-Inv-loop tn sought number cell ca length n₀ n = (n ≤ 64) × ((k : ℕ) → k < n → lineIsOn cell tn sought number k ≡ false)
+Inv-loop cell tn sought number n₀ n = (n ≤ 64) × ((k : ℕ) → k < n → lineIsOn (cellOf cell) tn sought number k ≡ false)
 
 abbrev μ-loop : tie.MeasureT-loop
-μ-loop tn sought number cell ca length n₀ n = 64 - n
+μ-loop cell tn sought number n₀ n = 64 - n
 
 loop-holds : tie.Need-loop-holds Inv-loop μ-loop
 loop-holds c = (search needs, below-none _)
 
-slice-aggregate-is-on : tie.Need-slice-aggregate-is-on Inv-loop μ-loop
-slice-aggregate-is-on c = search needs
-
 cast-is-on : tie.Need-cast-is-on Inv-loop μ-loop
 cast-is-on c = search needs
-
-mul-is-on : tie.Need-mul-is-on Inv-loop μ-loop
-mul-is-on c = search needs
-
-element-copy-out-is-on : tie.Need-element-copy-out-is-on Inv-loop μ-loop
-element-copy-out-is-on c = search needs
 
 is-on-requires : tie.Need-is-on-requires Inv-loop μ-loop
 is-on-requires c κs = search needs
 
 returns : tie.Need-returns Inv-loop μ-loop
-returns c =
-    sym (least-at _ 64 64 _ (search needs) (sym (c .before .is-on .ensures) ∙ c .if1 .taken) (c .before .before .before .before .before .loop .inv .1))
+returns c = sym (least-at _ 64 64 _ (search needs) (sym (c .before .is-on .ensures) ∙ c .if1 .taken) (c .before .before .before .loop .inv .1))
 
 add-n : tie.Need-add-n Inv-loop μ-loop
 add-n c = search needs
@@ -45,26 +36,10 @@ loop-less : tie.Need-loop-less Inv-loop μ-loop
 loop-less c = search needs
 
 loop-again : tie.Need-loop-again Inv-loop μ-loop
-loop-again c =
-    (search needs, below-more _ _ (c .before .before .before .before .before .loop .inv .1) (sym (c .before .is-on .ensures) ∙ c .if1 .left))
+loop-again c = (search needs, below-more _ _ (c .before .before .before .loop .inv .1) (sym (c .before .is-on .ensures) ∙ c .if1 .left))
 
 returns-2 : tie.Need-returns-2 Inv-loop μ-loop
 returns-2 c = sym (least-none _ 64 64 (λ k h. c .before .loop .inv .1 k (omega arith)))
 
 pub first-on-spec : {M : Type 1} → statement M
-first-on-spec =
-    tie.close
-    (tie.spec
-    Inv-loop
-    μ-loop
-    loop-holds
-    slice-aggregate-is-on
-    cast-is-on
-    mul-is-on
-    element-copy-out-is-on
-    is-on-requires
-    returns
-    add-n
-    loop-less
-    loop-again
-    returns-2)
+first-on-spec = tie.close (tie.spec Inv-loop μ-loop loop-holds cast-is-on is-on-requires returns add-n loop-less loop-again returns-2)

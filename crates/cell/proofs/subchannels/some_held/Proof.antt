@@ -8,15 +8,16 @@ use borrow.Author.Count.{below-none, below-more}
 use borrow.Author.Needs.{needs}
 use borrow.Author.Tests.{eq-eqb, ne-eqb}
 use Rattle.answers.proofs.Search.{any-at, any-none}
-use Rattle.cell.specs.State.{ownerAt}
+use Rattle.cell.specs.State.{lineAt, ownerAt}
+use Rattle.cell.specs.Words.{cellOf}
 use Rattle.cell.proofs.subchannels.some_held.Statement.{statement}
 use Rattle.cell.proofs.subchannels.some_held.Tie as tie
 
 abbrev Inv-loop : tie.InvT-loop
-Inv-loop l s₀ s = (s ≤ 8) × ((k : ℕ) → k < s → not (eqb (ownerAt l k) 0) ≡ false)
+Inv-loop cell n s₀ s = (s ≤ 8) × ((k : ℕ) → k < s → not (eqb (ownerAt (lineAt (cellOf cell) n) k) 0) ≡ false)
 
 abbrev μ-loop : tie.MeasureT-loop
-μ-loop l s₀ s = 8 - s
+μ-loop cell n s₀ s = 8 - s
 
 loop-holds : tie.Need-loop-holds Inv-loop μ-loop
 loop-holds c = (search needs, below-none _)
@@ -26,8 +27,9 @@ owner-at-requires c κs = search needs
 
 returns : tie.Need-returns Inv-loop μ-loop
 returns c =
+    let x = c .before .before .before .before .args in
     let held = ap (λ (o : ℕ). not (eqb o 0)) (sym (c .before .owner-at .ensures)) ∙ ap not (ne-eqb _ _ (c .if1 .taken)) in
-    sym (any-at (λ (k : ℕ). not (eqb (ownerAt (c .before .before .before .before .args .l) k) 0)) 8 _ (search needs) held)
+    sym (any-at (λ (k : ℕ). not (eqb (ownerAt (lineAt (cellOf (x .cell .now)) (x .n)) k) 0)) 8 _ (search needs) held)
 
 add-s : tie.Need-add-s Inv-loop μ-loop
 add-s c = search needs
@@ -44,15 +46,4 @@ returns-2 : tie.Need-returns-2 Inv-loop μ-loop
 returns-2 c = sym (any-none _ 8 (λ k h. c .before .loop .inv .1 k (omega arith)))
 
 pub some-held-spec : {M : Type 1} → statement M
-some-held-spec =
-    tie.close
-    (tie.spec
-    Inv-loop
-    μ-loop
-    loop-holds
-    owner-at-requires
-    returns
-    add-s
-    loop-less
-    loop-again
-    returns-2)
+some-held-spec = tie.close (tie.spec Inv-loop μ-loop loop-holds owner-at-requires returns add-s loop-less loop-again returns-2)

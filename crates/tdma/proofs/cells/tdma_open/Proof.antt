@@ -1,7 +1,6 @@
--- `tdma_open` meets its contract: the answer of `cell::open`, in numbers. Assumes nothing.
-use mathlib.Core.Path.{ap, _∙_}
+-- `cells::tdma_open` meets its contract: the answer of `cell::open`, in numbers, and the cell that it leaves. Assumes nothing.
+use Rattle.tdma.proofs.Lent.{left-is}
 use borrow.Author.Needs.{needs}
-use Rattle.tdma.specs.Cells.{changedNumbers}
 use Rattle.tdma.proofs.cells.tdma_open.Statement.{statement}
 use Rattle.tdma.proofs.cells.tdma_open.Tie as tie
 
@@ -12,7 +11,7 @@ changed-numbers-requires : tie.Need-changed-numbers-requires
 changed-numbers-requires c κs = search needs
 
 returns : tie.Need-returns
-returns c = c .changed-numbers .ensures ∙ ap changedNumbers (c .before .open .ensures)
+returns c = left-is (c .before .open .result) _ (c .changed-numbers .ensures) (c .before .open .ensures)
 
 pub tdma-open-spec : {M : Type 1} → statement M
 tdma-open-spec = tie.close (tie.spec open-requires changed-numbers-requires returns)

@@ -1,7 +1,6 @@
--- `tdma_release` meets its contract: the answer of `cell::release`, in numbers. Assumes nothing.
-use mathlib.Core.Path.{ap, _∙_}
+-- `cells::tdma_release` meets its contract: the answer of `cell::release`, in numbers, and the cell that it leaves. Assumes nothing.
+use Rattle.tdma.proofs.Lent.{left-is}
 use borrow.Author.Needs.{needs}
-use Rattle.tdma.specs.Cells.{changedNumbers}
 use Rattle.tdma.proofs.cells.tdma_release.Statement.{statement}
 use Rattle.tdma.proofs.cells.tdma_release.Tie as tie
 
@@ -12,7 +11,7 @@ changed-numbers-requires : tie.Need-changed-numbers-requires
 changed-numbers-requires c κs = search needs
 
 returns : tie.Need-returns
-returns c = c .changed-numbers .ensures ∙ ap changedNumbers (c .before .release .ensures)
+returns c = left-is (c .before .release .result) _ (c .changed-numbers .ensures) (c .before .release .ensures)
 
 pub tdma-release-spec : {M : Type 1} → statement M
 tdma-release-spec = tie.close (tie.spec release-requires changed-numbers-requires returns)

@@ -1,7 +1,6 @@
--- `tdma_start` meets its contract: the answer of `cell::start`, in numbers. Assumes nothing.
-use mathlib.Core.Path.{ap, _∙_}
+-- `cells::tdma_start` meets its contract: the answer of `cell::start`, in numbers, and the cell that it leaves. Assumes nothing.
+use Rattle.tdma.proofs.Lent.{left-is}
 use borrow.Author.Needs.{needs}
-use Rattle.tdma.specs.Cells.{changedNumbers}
 use Rattle.tdma.proofs.cells.tdma_start.Statement.{statement}
 use Rattle.tdma.proofs.cells.tdma_start.Tie as tie
 
@@ -12,7 +11,7 @@ changed-numbers-requires : tie.Need-changed-numbers-requires
 changed-numbers-requires c κs = search needs
 
 returns : tie.Need-returns
-returns c = c .changed-numbers .ensures ∙ ap changedNumbers (c .before .start .ensures)
+returns c = left-is (c .before .start .result) _ (c .changed-numbers .ensures) (c .before .start .ensures)
 
 pub tdma-start-spec : {M : Type 1} → statement M
 tdma-start-spec = tie.close (tie.spec start-requires changed-numbers-requires returns)

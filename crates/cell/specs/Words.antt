@@ -1,0 +1,25 @@
+-- The words that hold a cell: storage that the caller lends, and only the calls look into. Assumes nothing.
+use Prim.Native.Nat.{ℕ, _+_, _*_, _^_}
+use mathlib.Core.List.{List}
+use lib.ListN.{getD}
+use Rattle.cell.specs.State.{LineState, Cell, tabulate, lineCount, ownerRoom}
+
+abbrev pub word : List ℕ → ℕ → ℕ
+word words k = getD words k 0
+
+-- 64 words of CA and five numbers, and then fifteen words for each line
+abbrev pub placeOf : ℕ → ℕ
+placeOf n = 69 + 15 * n
+
+-- line n: its mask in two words, the lower half first, its five numbers, and its owners
+unfoldable pub lineIn : List ℕ → ℕ → LineState
+lineIn words n =
+    record { mask = at 0 + 2 ^ 32 * at 1; tn = at 2; hsn = at 3; maio = at 4; combination = at 5; tsc = at 6; owners = tabulate ownerRoom (λ s. at (7 + s)) }
+  where
+    at : ℕ → ℕ
+    at k = word words (placeOf n + k)
+
+-- the cell that the words hold
+unfoldable pub cellOf : List ℕ → Cell
+cellOf words =
+    record { ca = tabulate 64 (word words); length = word words 64; c0 = word words 65; bcc = word words 66; ag = word words 67; p = word words 68; lines = tabulate lineCount (lineIn words) }
