@@ -28,5 +28,6 @@ fn main() {
         panic!("target/staticlib/libtdma.a is missing: run `rt staticlib tdma` first");
     }
     println!("cargo:rustc-link-search=native={}", folder.display());
-    println!("cargo:rustc-link-lib=static=tdma");
+    // Not copied into the second implementation's own archive, which C links beside the library.
+    println!("cargo:rustc-link-lib=static:-bundle=tdma");
 }
