@@ -8,16 +8,22 @@
  * and where is a mobile station paged); and it builds bursts and takes them apart. "Document 01"
  * below is this project's scope, whose refusal numbers these are.
  *
- * No input has to be checked first. Every function returns for every value of every parameter: the
- * answer's `refusal` is TDMA_ACCEPTED, or the lowest number of document 01 that applies, and then
- * every other number of the answer is 0. (But TDMA_CLASH comes with a line number and TDMA_FIXED_BIT
- * with a bit number, and a call that changes a cell hands one back when it is refused, too.) A
- * refused call writes to no buffer. The one thing asked of C is that a pointer passed with a length
- * can be read for that length, or written where it is not const, and that what is written overlaps
- * nothing else that is passed.
+ * No input has to be checked first. Every function returns for every value of every number and every
+ * content of what a pointer points to: the answer's `refusal` is TDMA_ACCEPTED, or the lowest number
+ * of document 01 that applies, and then every other number of the answer is 0. (But TDMA_CLASH comes
+ * with a line number and TDMA_FIXED_BIT with a bit number.) A refused call writes to no buffer and
+ * leaves the cell exactly as it was. (But tdma_start fills the cell when it is refused, too.)
  *
- * The functions keep no state, allocate nothing and can be called from any thread: a cell belongs to
- * the caller, goes in by value and comes back by value, and a buffer is lent for the call alone.
+ * What is asked of C is this, and nothing more:
+ *   - A pointer can be read, or written where it is not const: for the length that is passed with it,
+ *     or for a whole cell. Where the length is 0, nothing is read or written through the pointer, and
+ *     it may be null.
+ *   - It is aligned for its type.
+ *   - While a call runs, what it writes overlaps nothing else that is passed, no other thread uses
+ *     what it writes, and none writes what it reads.
+ *
+ * The functions keep no state, allocate nothing and can be called from any thread. Cells and buffers
+ * belong to the caller and are lent for the call alone: no pointer is kept.
  * Build the library with `rt staticlib tdma` and link target/staticlib/libtdma.a (x86-64).
  */
 #ifndef TDMA_H
@@ -137,9 +143,8 @@ typedef struct {
 /*
  * The channel number (ARFCN) that a line uses in a frame. The whole cell allocation is checked in
  * each call, so the cost grows with its length.
- *   ca, ca_length: the cell allocation, 1 to 64 ARFCNs of 0 to 1023, strictly ascending. `ca` must
- *                  be readable for `ca_length` entries; where that is 0, pass any non-null pointer
- *                  to uint16_t, and the call is refused.
+ *   ca, ca_length: the cell allocation, 1 to 64 ARFCNs of 0 to 1023, strictly ascending. The length
+ *                  is in entries; with 0 the call is refused.
  *   mask, hsn, maio, frame: as for tdma_position.
  * Refusals, in this order: TDMA_CELL_ALLOCATION, TDMA_OUT_OF_RANGE (hsn, frame),
  * TDMA_MOBILE_ALLOCATION, TDMA_MAIO.
@@ -181,32 +186,33 @@ tdma_map_answer tdma_map(uint32_t combination, uint32_t tn, uint32_t frame, uint
  * for each of its subchannels, 0 for free. Whatever the calls, no two held subchannels or common
  * parts of open lines ever meet in a frame, timeslot, direction and ARFCN.
  *
- * A cell comes from tdma_start and from the calls that change it, and from nowhere else. (A call on
- * storage that was filled otherwise returns too, but its answer means nothing.) Each change answers
- * with the cell after it, which is the one to go on with. A refused one hands back the cell exactly
- * as it came, so that `cell` can be taken from every answer:
+ * A cell is storage of the caller's: tdma_start fills it, whatever it held before, and the other calls
+ * then change it in place or look at it. A call that is refused leaves it exactly as it was. It may be
+ * copied, and moved in memory, like any struct. (On storage that was filled otherwise every call
+ * returns too, but its answer means nothing.)
  *
- *     tdma_changed answer = tdma_start(ca, 4, 10, 0, 1, 5);
- *     answer = tdma_open(answer.cell, 0, 0, 1, 0, 0, 4, 0);
+ *     tdma_cell cell;
+ *     tdma_changed answer = tdma_start(&cell, ca, 4, 10, 0, 1, 5);
+ *     if (answer.refusal == TDMA_ACCEPTED)
+ *         answer = tdma_open(&cell, 0, 0, 1, 0, 0, 4, 0);
  *     if (answer.refusal == TDMA_CLASH)
  *         report(answer.line);
- *     answer = tdma_close(answer.cell, 0);
  */
 
-/* Storage for a cell: 4,248 bytes, aligned to 8, which only the library looks into. */
+/* Storage for a cell: 4,116 bytes, aligned to 4, which only the library looks into. */
 typedef struct tdma_cell {
-    uint64_t opaque[531];
+    uint32_t opaque[1029];
 } tdma_cell;
 
 typedef struct {
     uint32_t refusal;
-    uint32_t line;  /* with TDMA_CLASH the smallest line that stands in the way, else 0 */
-    tdma_cell cell; /* the cell after the call */
+    uint32_t line; /* with TDMA_CLASH the smallest line that stands in the way, else 0 */
 } tdma_changed;
 
 /*
- * A cell with all lines closed. Refused, the answer has the cell with ARFCN 0 as cell allocation and
- * C0, BCC and BS_AG_BLKS_RES 0, BS_PA_MFRMS 2, all lines closed.
+ * Fills the cell: all lines are closed. Refused, it becomes the cell with ARFCN 0 as cell allocation
+ * and C0, BCC and BS_AG_BLKS_RES 0, BS_PA_MFRMS 2, all lines closed.
+ *   cell: written, all of it; nothing in it is read.
  *   ca, ca_length: the cell allocation, as for tdma_hop.
  *   c0:  an ARFCN of the cell allocation.
  *   bcc: 0 to 7.
@@ -214,8 +220,8 @@ typedef struct {
  *   p:   BS_PA_MFRMS, 2 to 9.
  * Refusals, in this order: TDMA_CELL_ALLOCATION, TDMA_CELL_PARAMETER (c0, bcc, ag, p).
  */
-tdma_changed tdma_start(const uint16_t *ca, size_t ca_length, uint32_t c0, uint32_t bcc, uint32_t ag,
-                        uint32_t p);
+tdma_changed tdma_start(tdma_cell *cell, const uint16_t *ca, size_t ca_length, uint32_t c0,
+                        uint32_t bcc, uint32_t ag, uint32_t p);
 
 /*
  * Opens a line: it gets the six values, and all its subchannels are free.
@@ -235,7 +241,7 @@ tdma_changed tdma_start(const uint16_t *ca, size_t ca_length, uint32_t c0, uint3
  * Refusals, in this order: TDMA_OUT_OF_RANGE (line, tn, hsn, combination, tsc),
  * TDMA_MOBILE_ALLOCATION, TDMA_MAIO, TDMA_LINE_OPEN, TDMA_COMMON_CHANNEL, TDMA_CLASH.
  */
-tdma_changed tdma_open(tdma_cell cell, uint32_t line, uint32_t tn, uint64_t mask, uint32_t hsn,
+tdma_changed tdma_open(tdma_cell *cell, uint32_t line, uint32_t tn, uint64_t mask, uint32_t hsn,
                        uint32_t maio, uint32_t combination, uint32_t tsc);
 
 /*
@@ -245,7 +251,7 @@ tdma_changed tdma_open(tdma_cell cell, uint32_t line, uint32_t tn, uint64_t mask
  * Refusals, in this order: TDMA_OUT_OF_RANGE (line), TDMA_LINE_CLOSED, TDMA_COMMON_CHANNEL,
  * TDMA_LINE_HELD.
  */
-tdma_changed tdma_close(tdma_cell cell, uint32_t line);
+tdma_changed tdma_close(tdma_cell *cell, uint32_t line);
 
 /*
  * Gives a free subchannel to an owner.
@@ -255,7 +261,7 @@ tdma_changed tdma_close(tdma_cell cell, uint32_t line);
  * Refusals, in this order: TDMA_OUT_OF_RANGE (line, owner), TDMA_LINE_CLOSED, TDMA_NO_SUBCHANNEL,
  * TDMA_SUBCHANNEL_HELD.
  */
-tdma_changed tdma_seize(tdma_cell cell, uint32_t line, uint32_t subchannel, uint32_t owner);
+tdma_changed tdma_seize(tdma_cell *cell, uint32_t line, uint32_t subchannel, uint32_t owner);
 
 /*
  * Frees a subchannel that the owner holds.
@@ -263,7 +269,7 @@ tdma_changed tdma_seize(tdma_cell cell, uint32_t line, uint32_t subchannel, uint
  * Refusals, in this order: TDMA_OUT_OF_RANGE (line, owner), TDMA_LINE_CLOSED, TDMA_NO_SUBCHANNEL,
  * TDMA_NOT_HOLDER.
  */
-tdma_changed tdma_release(tdma_cell cell, uint32_t line, uint32_t subchannel, uint32_t owner);
+tdma_changed tdma_release(tdma_cell *cell, uint32_t line, uint32_t subchannel, uint32_t owner);
 
 typedef struct {
     uint32_t refusal;
@@ -286,7 +292,7 @@ typedef struct {
  *   direction: enum tdma_direction.
  * Refusals, in this order: TDMA_OUT_OF_RANGE (line, frame, direction), TDMA_LINE_CLOSED.
  */
-tdma_line_answer tdma_line(tdma_cell cell, uint32_t line, uint32_t frame, uint32_t direction);
+tdma_line_answer tdma_line(const tdma_cell *cell, uint32_t line, uint32_t frame, uint32_t direction);
 
 typedef struct {
     uint32_t refusal;
@@ -306,7 +312,7 @@ typedef struct {
  *   direction: enum tdma_direction.
  * Refusal: TDMA_OUT_OF_RANGE for any of the four.
  */
-tdma_who_answer tdma_who(tdma_cell cell, uint32_t tn, uint32_t arfcn, uint32_t frame,
+tdma_who_answer tdma_who(const tdma_cell *cell, uint32_t tn, uint32_t arfcn, uint32_t frame,
                          uint32_t direction);
 
 typedef struct {
@@ -321,19 +327,17 @@ typedef struct {
  * and the first frame at or after `frame` where that block begins. It is past the turn to 0, and
  * then below `frame`, if the hyperframe ends before. The cell stays as it is.
  *   digits, digits_length: the IMSI, 3 to 15 digits, the first one first, one to a byte: 0 to 9, not
- *                          characters. The last three decide. `digits` must be readable for
- *                          `digits_length` bytes; where that is 0, pass any non-null pointer, and
- *                          the call is refused.
+ *                          characters. The last three decide.
  *   frame:                 0 to TDMA_HYPERFRAME - 1.
  * Refusals, in this order: TDMA_OUT_OF_RANGE (digits, frame), TDMA_NO_COMMON_LINE (no line of
  * combination 4, 5 or 6 is open).
  *
  *     static const uint8_t imsi[] = {2, 6, 2, 0, 1, 1, 2, 3};
- *     tdma_page_answer page = tdma_page(cell, imsi, 8, 0);
+ *     tdma_page_answer page = tdma_page(&cell, imsi, 8, 0);
  *     if (page.refusal == TDMA_ACCEPTED)
  *         send_at(page.frame, page.tn);
  */
-tdma_page_answer tdma_page(tdma_cell cell, const uint8_t *digits, size_t digits_length,
+tdma_page_answer tdma_page(const tdma_cell *cell, const uint8_t *digits, size_t digits_length,
                            uint32_t frame);
 
 /*
@@ -351,10 +355,8 @@ tdma_page_answer tdma_page(tdma_cell cell, const uint8_t *digits, size_t digits_
  *                            take.
  *   burst, burst_length:     the burst, of its kind's exact length. Written by a build, read by a
  *                            take.
- * What is read must be readable, and what is written must be writable, for the length passed with
- * it, whatever that length is, and the two must not overlap. Where a length is 0, pass any non-null
- * pointer, and the call is refused. An accepted call writes every byte of its buffer, and a refused
- * one writes none. What is read stays as it is.
+ * The two must not overlap. With any other length the call is refused. An accepted call writes every
+ * byte of its buffer, and a refused one writes none. What is read stays as it is.
  *
  *     uint8_t burst[TDMA_BURST], payload[TDMA_NORMAL_PAYLOAD];
  *     tdma_burst_answer answer;

@@ -1,17 +1,29 @@
-/* The header from C: each function is called, accepted and refused, and the sizes are checked. */
+/*
+ * The header from C and from C++: each function is called, accepted and refused, and the sizes are
+ * checked.
+ */
 #include "tdma.h"
 
 #include <stdio.h>
 #include <string.h>
+
+#ifndef LIBRARY_CELL_WORDS
+#error "LIBRARY_CELL_WORDS is missing: the number of words that crates/cell/src/words.rt has"
+#endif
 
 /* The sizes that the library was built with; a wrong one does not compile. */
 struct cell_after_a_byte {
     char byte;
     struct tdma_cell cell;
 };
-typedef char cell_size[sizeof(tdma_cell) == 4248 ? 1 : -1];
-typedef char cell_alignment[offsetof(struct cell_after_a_byte, cell) == 8 ? 1 : -1];
-typedef char changed_size[sizeof(tdma_changed) == 8 + 4248 ? 1 : -1];
+struct word_after_a_byte {
+    char byte;
+    uint32_t word;
+};
+typedef char cell_size[sizeof(tdma_cell) == LIBRARY_CELL_WORDS * sizeof(uint32_t) ? 1 : -1];
+typedef char cell_alignment[offsetof(struct cell_after_a_byte, cell) ==
+                            offsetof(struct word_after_a_byte, word) ? 1 : -1];
+typedef char changed_size[sizeof(tdma_changed) == 8 ? 1 : -1];
 typedef char line_answer_size[sizeof(tdma_line_answer) == 40 ? 1 : -1];
 typedef char who_answer_size[sizeof(tdma_who_answer) == 12 + 40 ? 1 : -1];
 typedef char page_answer_size[sizeof(tdma_page_answer) == 16 ? 1 : -1];
@@ -47,9 +59,9 @@ static void hopping_calls(void)
 {
     static const uint16_t ca[4] = {10, 20, 30, 40};
     tdma_hop_answer hop = tdma_hop(ca, 4, 15, 1, 0, 3);
-    tdma_hop_answer none = tdma_hop(ca, 0, 15, 64, 4, TDMA_HYPERFRAME);
+    tdma_hop_answer none = tdma_hop(NULL, 0, 15, 64, 4, TDMA_HYPERFRAME);
     tdma_position_answer position = tdma_position(4, 15, 1, 0, 3);
-    tdma_position_answer above = tdma_position(4, (uint64_t)1 << 63, 1, 1, 3);
+    tdma_position_answer above = tdma_position(4, UINT64_C(1) << 63, 1, 1, 3);
     tdma_position_answer maio = tdma_position(64, UINT64_MAX, 63, 64, 0);
 
     expect("hop", hop.refusal == TDMA_ACCEPTED && hop.arfcn == 30);
@@ -77,86 +89,138 @@ static void map_calls(void)
     expect("map, refused", third.refusal == TDMA_OUT_OF_RANGE && third.channel == 0);
 }
 
-/* Takes the cell from an answer, and says what the call was refused with. */
-static uint32_t take(tdma_cell *cell, tdma_changed answer)
-{
-    *cell = answer.cell;
-    return answer.refusal;
-}
-
 /* CA is 10, 20, 30, 40, C0 is 10, BCC is 0; a 4 is open on line 0, a 2 in timeslot 1 on line 5. */
 static tdma_cell two_lines(void)
 {
     static const uint16_t ca[4] = {10, 20, 30, 40};
     tdma_cell cell;
 
-    expect("start", take(&cell, tdma_start(ca, 4, 10, 0, 1, 5)) == TDMA_ACCEPTED);
-    expect("open a 4", take(&cell, tdma_open(cell, 0, 0, 1, 0, 0, 4, 0)) == TDMA_ACCEPTED);
-    expect("open a 2", take(&cell, tdma_open(cell, 5, 1, 7, 1, 2, 2, 3)) == TDMA_ACCEPTED);
+    expect("start", tdma_start(&cell, ca, 4, 10, 0, 1, 5).refusal == TDMA_ACCEPTED);
+    expect("open a 4", tdma_open(&cell, 0, 0, 1, 0, 0, 4, 0).refusal == TDMA_ACCEPTED);
+    expect("open a 2", tdma_open(&cell, 5, 1, 7, 1, 2, 2, 3).refusal == TDMA_ACCEPTED);
     return cell;
+}
+
+/* The same, and subchannel 1 of line 5 is held by 77. */
+static tdma_cell one_held(void)
+{
+    tdma_cell cell = two_lines();
+
+    expect("seize", tdma_seize(&cell, 5, 1, 77).refusal == TDMA_ACCEPTED);
+    return cell;
+}
+
+static int is_same(const tdma_cell *one, const tdma_cell *other)
+{
+    return memcmp(one, other, sizeof *one) == 0;
 }
 
 static void start_calls(void)
 {
     static const uint16_t descending[2] = {20, 10};
-    tdma_changed c0 = tdma_start(descending + 1, 1, 20, 0, 1, 5);
-    tdma_changed ca = tdma_start(descending, 2, 20, 0, 1, 5);
-    tdma_changed opened = tdma_open(ca.cell, 63, 7, 1, 0, 0, 1, 0);
-    tdma_line_answer line = tdma_line(opened.cell, 63, 0, TDMA_DOWNLINK);
+    tdma_cell cell;
+    tdma_changed c0 = tdma_start(&cell, descending + 1, 1, 20, 0, 1, 5);
+    tdma_changed none = tdma_start(&cell, NULL, 0, 0, 0, 1, 5);
+    tdma_changed ca = tdma_start(&cell, descending, 2, 20, 0, 1, 5);
+    tdma_changed opened = tdma_open(&cell, 63, 7, 1, 0, 0, 1, 0);
+    tdma_line_answer line = tdma_line(&cell, 63, 0, TDMA_DOWNLINK);
 
     expect("start, C0 refused", c0.refusal == TDMA_CELL_PARAMETER && c0.line == 0);
+    expect("start, no CA", none.refusal == TDMA_CELL_ALLOCATION && none.line == 0);
     expect("start, CA refused", ca.refusal == TDMA_CELL_ALLOCATION && ca.line == 0);
     expect("a refused start's cell", opened.refusal == TDMA_ACCEPTED &&
                                          line.refusal == TDMA_ACCEPTED && line.arfcn == 0 &&
                                          line.channel == TDMA_TCH);
 }
 
-static void open_and_close_calls(void)
+/* A cell, and what stands on both sides of it. */
+struct surrounded {
+    uint32_t before[64];
+    tdma_cell cell;
+    uint32_t after[64];
+};
+
+/* Starts on storage filled with this byte; the surroundings stay, and the cell is compared. */
+static void start_on(int byte, uint32_t c0, uint32_t refusal, const tdma_cell *cell)
 {
-    tdma_cell cell = two_lines();
-    tdma_changed clash = tdma_open(cell, 6, 1, 4, 0, 0, 7, 0);
-    tdma_changed common = tdma_open(cell, 6, 0, 1, 0, 0, 4, 0);
-    tdma_changed mask = tdma_open(cell, 5, 1, UINT64_MAX, 0, 64, 4, 0);
-    tdma_changed maio = tdma_open(cell, 5, 1, 7, 1, 3, 2, 3);
-    tdma_changed again = tdma_open(cell, 5, 1, 7, 1, 1, 2, 3);
-    tdma_changed past = tdma_close(cell, 64);
+    static const uint16_t ca[2] = {10, 20};
+    struct surrounded filled, storage;
+
+    memset(&filled, byte, sizeof filled);
+    memset(&storage, byte, sizeof storage);
+    expect("start on storage", tdma_start(&storage.cell, ca, 2, c0, 7, 2, 9).refusal == refusal);
+    expect("start, before the cell",
+           memcmp(storage.before, filled.before, sizeof filled.before) == 0);
+    expect("start, after the cell", memcmp(storage.after, filled.after, sizeof filled.after) == 0);
+    expect("start, all of the cell", is_same(&storage.cell, cell));
+}
+
+/* 0 and 255 differ in every bit, so that a byte which is not written is seen. */
+static void start_fills_the_cell(void)
+{
+    static const uint16_t ca[2] = {10, 20};
+    tdma_cell cell;
+
+    tdma_start(&cell, ca, 2, 20, 7, 2, 9);
+    start_on(0, 20, TDMA_ACCEPTED, &cell);
+    start_on(255, 20, TDMA_ACCEPTED, &cell);
+    tdma_start(&cell, ca, 2, 21, 7, 2, 9);
+    start_on(0, 21, TDMA_CELL_PARAMETER, &cell);
+    start_on(255, 21, TDMA_CELL_PARAMETER, &cell);
+}
+
+static void refused_open_calls(void)
+{
+    const tdma_cell before = two_lines();
+    tdma_cell cell = before;
+    tdma_changed clash = tdma_open(&cell, 6, 1, 4, 0, 0, 7, 0);
+    tdma_changed common = tdma_open(&cell, 6, 0, 1, 0, 0, 4, 0);
+    tdma_changed mask = tdma_open(&cell, 5, 1, UINT64_MAX, 0, 64, 4, 0);
+    tdma_changed maio = tdma_open(&cell, 5, 1, 7, 1, 3, 2, 3);
+    tdma_changed again = tdma_open(&cell, 5, 1, 7, 1, 1, 2, 3);
 
     expect("open, clash", clash.refusal == TDMA_CLASH && clash.line == 5);
-    expect("open, clash, cell", memcmp(&clash.cell, &cell, sizeof cell) == 0);
     expect("open, common channel", common.refusal == TDMA_COMMON_CHANNEL && common.line == 0);
     expect("open, mask", mask.refusal == TDMA_MOBILE_ALLOCATION);
     expect("open, MAIO", maio.refusal == TDMA_MAIO);
     expect("open of an open line", again.refusal == TDMA_LINE_OPEN);
-    expect("open a 6", take(&cell, tdma_open(cell, 6, 2, 1, 0, 0, 6, 0)) == TDMA_ACCEPTED);
-    expect("close a needed 4", take(&cell, tdma_close(cell, 0)) == TDMA_COMMON_CHANNEL);
-    expect("close the 6", take(&cell, tdma_close(cell, 6)) == TDMA_ACCEPTED);
-    expect("close the 4", take(&cell, tdma_close(cell, 0)) == TDMA_ACCEPTED);
-    expect("close a closed line", take(&cell, tdma_close(cell, 0)) == TDMA_LINE_CLOSED);
-    expect("close, line number", past.refusal == TDMA_OUT_OF_RANGE);
+    expect("open, refused, cell", is_same(&cell, &before));
+}
+
+static void open_and_close_calls(void)
+{
+    tdma_cell cell = two_lines();
+
+    expect("open a 6", tdma_open(&cell, 6, 2, 1, 0, 0, 6, 0).refusal == TDMA_ACCEPTED);
+    expect("close a needed 4", tdma_close(&cell, 0).refusal == TDMA_COMMON_CHANNEL);
+    expect("close the 6", tdma_close(&cell, 6).refusal == TDMA_ACCEPTED);
+    expect("close the 4", tdma_close(&cell, 0).refusal == TDMA_ACCEPTED);
+    expect("close a closed line", tdma_close(&cell, 0).refusal == TDMA_LINE_CLOSED);
+    expect("close, line number", tdma_close(&cell, 64).refusal == TDMA_OUT_OF_RANGE);
 }
 
 static void seize_and_release_calls(void)
 {
     tdma_cell cell = two_lines();
 
-    expect("seize on a 4", take(&cell, tdma_seize(cell, 0, 0, 77)) == TDMA_NO_SUBCHANNEL);
-    expect("seize, owner", take(&cell, tdma_seize(cell, 5, 1, 65536)) == TDMA_OUT_OF_RANGE);
-    expect("seize", take(&cell, tdma_seize(cell, 5, 1, 77)) == TDMA_ACCEPTED);
-    expect("seize, held", take(&cell, tdma_seize(cell, 5, 1, 78)) == TDMA_SUBCHANNEL_HELD);
-    expect("close, held", take(&cell, tdma_close(cell, 5)) == TDMA_LINE_HELD);
-    expect("release, other", take(&cell, tdma_release(cell, 5, 1, 78)) == TDMA_NOT_HOLDER);
-    expect("release", take(&cell, tdma_release(cell, 5, 1, 77)) == TDMA_ACCEPTED);
-    expect("close, free", take(&cell, tdma_close(cell, 5)) == TDMA_ACCEPTED);
+    expect("seize on a 4", tdma_seize(&cell, 0, 0, 77).refusal == TDMA_NO_SUBCHANNEL);
+    expect("seize, owner", tdma_seize(&cell, 5, 1, 65536).refusal == TDMA_OUT_OF_RANGE);
+    expect("seize", tdma_seize(&cell, 5, 1, 77).refusal == TDMA_ACCEPTED);
+    expect("seize, held", tdma_seize(&cell, 5, 1, 78).refusal == TDMA_SUBCHANNEL_HELD);
+    expect("close, held", tdma_close(&cell, 5).refusal == TDMA_LINE_HELD);
+    expect("release, other", tdma_release(&cell, 5, 1, 78).refusal == TDMA_NOT_HOLDER);
+    expect("release", tdma_release(&cell, 5, 1, 77).refusal == TDMA_ACCEPTED);
+    expect("close, free", tdma_close(&cell, 5).refusal == TDMA_ACCEPTED);
 }
 
 static void line_calls(void)
 {
-    tdma_cell cell = tdma_seize(two_lines(), 5, 1, 77).cell;
-    tdma_line_answer ccch = tdma_line(cell, 0, 26, TDMA_DOWNLINK);
-    tdma_line_answer tch = tdma_line(cell, 5, 3, TDMA_UPLINK);
-    tdma_line_answer spare = tdma_line(cell, 5, 4, TDMA_UPLINK);
-    tdma_line_answer closed = tdma_line(cell, 1, 26, TDMA_DOWNLINK);
-    tdma_line_answer past = tdma_line(cell, 0, TDMA_HYPERFRAME, TDMA_DOWNLINK);
+    const tdma_cell cell = one_held();
+    tdma_line_answer ccch = tdma_line(&cell, 0, 26, TDMA_DOWNLINK);
+    tdma_line_answer tch = tdma_line(&cell, 5, 3, TDMA_UPLINK);
+    tdma_line_answer spare = tdma_line(&cell, 5, 4, TDMA_UPLINK);
+    tdma_line_answer closed = tdma_line(&cell, 1, 26, TDMA_DOWNLINK);
+    tdma_line_answer past = tdma_line(&cell, 0, TDMA_HYPERFRAME, TDMA_DOWNLINK);
 
     expect("line, CCCH", ccch.refusal == TDMA_ACCEPTED && ccch.arfcn == 10 && ccch.owner == 0 &&
                              ccch.channel == TDMA_CCCH && ccch.blocks == 1 && ccch.block == 4 &&
@@ -172,13 +236,13 @@ static void line_calls(void)
 
 static void who_calls(void)
 {
-    tdma_cell cell = tdma_seize(two_lines(), 5, 1, 77).cell;
-    tdma_line_answer shown = tdma_line(cell, 5, 3, TDMA_UPLINK);
-    tdma_who_answer tch = tdma_who(cell, 1, 30, 3, TDMA_UPLINK);
-    tdma_who_answer ccch = tdma_who(cell, 0, 10, 26, TDMA_DOWNLINK);
-    tdma_who_answer nobody = tdma_who(cell, 0, 30, 3, TDMA_UPLINK);
-    tdma_who_answer past = tdma_who(cell, 8, 30, 3, TDMA_UPLINK);
-    tdma_who_answer arfcn = tdma_who(cell, 1, 1024, 3, TDMA_UPLINK);
+    const tdma_cell cell = one_held();
+    tdma_line_answer shown = tdma_line(&cell, 5, 3, TDMA_UPLINK);
+    tdma_who_answer tch = tdma_who(&cell, 1, 30, 3, TDMA_UPLINK);
+    tdma_who_answer ccch = tdma_who(&cell, 0, 10, 26, TDMA_DOWNLINK);
+    tdma_who_answer nobody = tdma_who(&cell, 0, 30, 3, TDMA_UPLINK);
+    tdma_who_answer past = tdma_who(&cell, 8, 30, 3, TDMA_UPLINK);
+    tdma_who_answer arfcn = tdma_who(&cell, 1, 1024, 3, TDMA_UPLINK);
 
     expect("who", tch.refusal == TDMA_ACCEPTED && tch.found == 1 && tch.line == 5 &&
                       tch.answer.owner == 77 && memcmp(&tch.answer, &shown, sizeof shown) == 0);
@@ -197,18 +261,19 @@ static void page_calls(void)
     static const uint8_t imsi[15] = {2, 6, 2, 0, 1, 0, 0, 0, 0, 0, 0, 0, 1, 2, 3};
     static const uint8_t text[3] = {'1', '2', '3'};
     tdma_cell cell = two_lines();
-    tdma_cell without = tdma_close(cell, 0).cell;
-    tdma_page_answer page = tdma_page(cell, imsi, 15, 0);
-    tdma_page_answer turned = tdma_page(cell, imsi + 12, 3, TDMA_HYPERFRAME - 1);
-    tdma_page_answer none = tdma_page(without, imsi, 15, 0);
-    tdma_page_answer both = tdma_page(without, imsi, 0, 0);
+    tdma_page_answer page = tdma_page(&cell, imsi, 15, 0);
+    tdma_page_answer turned = tdma_page(&cell, imsi + 12, 3, TDMA_HYPERFRAME - 1);
+    tdma_page_answer none, both;
 
     expect("page", page.refusal == TDMA_ACCEPTED && page.tn == 0 && page.block == 4 &&
                        page.frame == 26);
     expect("page, turned", turned.refusal == TDMA_ACCEPTED && turned.frame == 26);
-    expect("page, two digits", tdma_page(cell, imsi, 2, 0).refusal == TDMA_OUT_OF_RANGE);
-    expect("page, characters", tdma_page(cell, text, 3, 0).refusal == TDMA_OUT_OF_RANGE);
-    expect("page, frame", tdma_page(cell, imsi, 15, TDMA_HYPERFRAME).refusal == TDMA_OUT_OF_RANGE);
+    expect("page, two digits", tdma_page(&cell, imsi, 2, 0).refusal == TDMA_OUT_OF_RANGE);
+    expect("page, characters", tdma_page(&cell, text, 3, 0).refusal == TDMA_OUT_OF_RANGE);
+    expect("page, frame", tdma_page(&cell, imsi, 15, TDMA_HYPERFRAME).refusal == TDMA_OUT_OF_RANGE);
+    expect("close the 4", tdma_close(&cell, 0).refusal == TDMA_ACCEPTED);
+    none = tdma_page(&cell, imsi, 15, 0);
+    both = tdma_page(&cell, NULL, 0, 0);
     expect("page, no common line", none.refusal == TDMA_NO_COMMON_LINE && none.frame == 0);
     expect("page, both", both.refusal == TDMA_OUT_OF_RANGE && both.frame == 0);
 }
@@ -274,7 +339,7 @@ static void synchronization_burst_calls(void)
                                         has_bits(burst + 40, "01" "10111001") &&
                                         has_bits(burst + 98, "00011011" "10"));
     expect("build synchronization, no payload",
-           is_answer(tdma_build_synchronization(payload, 0, burst, b), TDMA_MALFORMED, 0));
+           is_answer(tdma_build_synchronization(NULL, 0, burst, b), TDMA_MALFORMED, 0));
     expect("take synchronization",
            is_answer(tdma_take_synchronization(burst, b, taken, p), TDMA_ACCEPTED, 0));
     expect("take synchronization, payload", memcmp(taken, payload, p) == 0);
@@ -315,7 +380,7 @@ static void bursts_without_payload(void)
            is_answer(tdma_build_frequency_correction(burst, b), TDMA_ACCEPTED, 0));
     expect("frequency correction burst", memcmp(burst, zeros, b) == 0);
     expect("build frequency correction, length",
-           is_answer(tdma_build_frequency_correction(burst, 0), TDMA_MALFORMED, 0));
+           is_answer(tdma_build_frequency_correction(NULL, 0), TDMA_MALFORMED, 0));
     expect("build dummy", is_answer(tdma_build_dummy(burst, b), TDMA_ACCEPTED, 0));
     expect("dummy burst", has_bits(burst, "000" "1111101101110110") &&
                               has_bits(burst + 131, "00101111" "101010" "000"));
@@ -328,6 +393,8 @@ int main(void)
     hopping_calls();
     map_calls();
     start_calls();
+    start_fills_the_cell();
+    refused_open_calls();
     open_and_close_calls();
     seize_and_release_calls();
     line_calls();

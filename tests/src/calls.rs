@@ -56,7 +56,7 @@ impl Call {
 
 /// A call that changes the cell, made on the library's. Line, who and page, which change nothing,
 /// give none.
-pub fn change(cell: &library::Cell, call: &Call) -> Option<Changed> {
+pub fn change(cell: &mut library::Cell, call: &Call) -> Option<Changed> {
     match *call {
         Call::Open(line, values) => Some(library::open(cell, line, &values)),
         Call::Close(line) => Some(library::close(cell, line)),
@@ -94,14 +94,14 @@ impl Both {
             ag,
             p,
         } = *plan;
-        let changed = library::start(ca, c0, bcc, ag, p);
+        let mut library = library::unfilled();
+        let changed = library::start(&mut library, ca, c0, bcc, ag, p);
         let (answer, second) = Cell::start(plan);
         assert_eq!(
             (changed.refusal, changed.line),
             (answer.err().unwrap_or(0), 0),
             "{plan:?}"
         );
-        let library = changed.cell;
         (changed.refusal, Both { library, second })
     }
 
@@ -123,7 +123,8 @@ impl Both {
     }
 
     fn change(&mut self, call: &Call) -> u32 {
-        let changed = change(&self.library, call).unwrap();
+        let before = self.library;
+        let changed = change(&mut self.library, call).unwrap();
         let second = second_change(&mut self.second, call).unwrap();
         let refused = second.err().unwrap_or(Refused::from(0));
         let answer = Refused {
@@ -131,9 +132,8 @@ impl Both {
             line: changed.line,
         };
         assert_eq!(answer, refused, "{call:?}, after it {:?}", self.second);
-        let kept = changed.refusal == 0 || changed.cell == self.library;
+        let kept = changed.refusal == 0 || self.library == before;
         assert!(kept, "refused, but changed: {call:?} on {:?}", self.second);
-        self.library = changed.cell;
         changed.refusal
     }
 

@@ -5,9 +5,10 @@
 //! of frames that are painted block by block, a book of the open lines, a walk to the frame where a
 //! paging block begins. `bursts` has the layouts of clause 5.2 written out bit by bit. `library` is
 //! the library under test as C sees it. `random` draws the inputs, and `draw` whole calls on a cell,
-//! which `calls` makes on both.
+//! which `calls` makes on both. `c_api` is the second implementation for C.
 
 pub mod bursts;
+mod c_api;
 pub mod calls;
 pub mod cell;
 pub mod clock;

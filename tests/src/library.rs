@@ -26,6 +26,7 @@ answers! {
         refusal, arfcn, owner, channel, subchannel, blocks, block, place, second_block, second_place
     }
     PageAnswer: u32 { refusal, tn, block, frame }
+    Changed: u32 { refusal, line }
     BurstAnswer: u32 { refusal, bit }
 }
 
@@ -38,21 +39,20 @@ pub struct WhoAnswer {
     pub answer: LineAnswer,
 }
 
+/// The words of a cell. The build reads the library's own number from its source.
+pub const WORDS: usize = 1029;
+
+const OWN_WORDS: usize = match usize::from_str_radix(env!("LIBRARY_CELL_WORDS"), 10) {
+    Ok(words) => words,
+    Err(_) => panic!("LIBRARY_CELL_WORDS is not a number"),
+};
+const _: () = assert!(WORDS == OWN_WORDS);
+
 /// The cell as C has it: storage that only the library looks into.
 #[repr(C)]
 #[derive(Clone, Copy, PartialEq, Eq)]
 pub struct Cell {
-    pub opaque: [u64; 531],
-}
-
-const _: () = assert!(size_of::<Cell>() == 4248 && align_of::<Cell>() == 8);
-
-#[repr(C)]
-#[derive(Clone, Copy)]
-pub struct Changed {
-    pub refusal: u32,
-    pub line: u32,
-    pub cell: Cell,
+    pub opaque: [u32; WORDS],
 }
 
 extern "C" {
@@ -68,9 +68,17 @@ extern "C" {
         frame: u32,
     ) -> HopAnswer;
     fn tdma_map(combination: u32, tn: u32, frame: u32, direction: u32) -> MapAnswer;
-    fn tdma_start(ca: *const u16, ca_length: usize, c0: u32, bcc: u32, ag: u32, p: u32) -> Changed;
+    fn tdma_start(
+        cell: *mut Cell,
+        ca: *const u16,
+        ca_length: usize,
+        c0: u32,
+        bcc: u32,
+        ag: u32,
+        p: u32,
+    ) -> Changed;
     fn tdma_open(
-        cell: Cell,
+        cell: *mut Cell,
         line: u32,
         tn: u32,
         mask: u64,
@@ -79,12 +87,17 @@ extern "C" {
         combination: u32,
         tsc: u32,
     ) -> Changed;
-    fn tdma_close(cell: Cell, line: u32) -> Changed;
-    fn tdma_seize(cell: Cell, line: u32, subchannel: u32, owner: u32) -> Changed;
-    fn tdma_release(cell: Cell, line: u32, subchannel: u32, owner: u32) -> Changed;
-    fn tdma_line(cell: Cell, line: u32, frame: u32, direction: u32) -> LineAnswer;
-    fn tdma_who(cell: Cell, tn: u32, arfcn: u32, frame: u32, direction: u32) -> WhoAnswer;
-    fn tdma_page(cell: Cell, digits: *const u8, digits_length: usize, frame: u32) -> PageAnswer;
+    fn tdma_close(cell: *mut Cell, line: u32) -> Changed;
+    fn tdma_seize(cell: *mut Cell, line: u32, subchannel: u32, owner: u32) -> Changed;
+    fn tdma_release(cell: *mut Cell, line: u32, subchannel: u32, owner: u32) -> Changed;
+    fn tdma_line(cell: *const Cell, line: u32, frame: u32, direction: u32) -> LineAnswer;
+    fn tdma_who(cell: *const Cell, tn: u32, arfcn: u32, frame: u32, direction: u32) -> WhoAnswer;
+    fn tdma_page(
+        cell: *const Cell,
+        digits: *const u8,
+        digits_length: usize,
+        frame: u32,
+    ) -> PageAnswer;
     fn tdma_build_normal(
         tsc: u32,
         payload: *const u8,
@@ -127,8 +140,8 @@ extern "C" {
     fn tdma_build_dummy(burst: *mut u8, burst_length: usize) -> BurstAnswer;
 }
 
-// The library takes every value of a number and of a cell, so these calls are safe; a slice is
-// readable for its length, and its pointer is not null even where it is empty.
+// The library takes every value of a number and every content of a cell, so these calls are safe: a
+// slice or a cell that is lent is valid and aligned, and what is lent to be written is lent alone.
 
 #[inline]
 pub fn split(frame: u32) -> SplitAnswer {
@@ -155,16 +168,24 @@ pub fn map(combination: u32, tn: u32, frame: u32, direction: u32) -> MapAnswer {
     unsafe { tdma_map(combination, tn, frame, direction) }
 }
 
+/// Storage for start to fill.
 #[inline]
-pub fn start(ca: &[u16], c0: u32, bcc: u32, ag: u32, p: u32) -> Changed {
-    unsafe { tdma_start(ca.as_ptr(), ca.len(), c0, bcc, ag, p) }
+pub fn unfilled() -> Cell {
+    Cell {
+        opaque: [u32::MAX; WORDS],
+    }
 }
 
 #[inline]
-pub fn open(cell: &Cell, line: u32, v: &Values) -> Changed {
+pub fn start(cell: &mut Cell, ca: &[u16], c0: u32, bcc: u32, ag: u32, p: u32) -> Changed {
+    unsafe { tdma_start(cell, ca.as_ptr(), ca.len(), c0, bcc, ag, p) }
+}
+
+#[inline]
+pub fn open(cell: &mut Cell, line: u32, v: &Values) -> Changed {
     unsafe {
         tdma_open(
-            *cell,
+            cell,
             line,
             v.tn,
             v.mask,
@@ -177,40 +198,40 @@ pub fn open(cell: &Cell, line: u32, v: &Values) -> Changed {
 }
 
 #[inline]
-pub fn close(cell: &Cell, line: u32) -> Changed {
-    unsafe { tdma_close(*cell, line) }
+pub fn close(cell: &mut Cell, line: u32) -> Changed {
+    unsafe { tdma_close(cell, line) }
 }
 
 #[inline]
-pub fn seize(cell: &Cell, line: u32, s: u32, owner: u32) -> Changed {
-    unsafe { tdma_seize(*cell, line, s, owner) }
+pub fn seize(cell: &mut Cell, line: u32, s: u32, owner: u32) -> Changed {
+    unsafe { tdma_seize(cell, line, s, owner) }
 }
 
 #[inline]
-pub fn release(cell: &Cell, line: u32, s: u32, owner: u32) -> Changed {
-    unsafe { tdma_release(*cell, line, s, owner) }
+pub fn release(cell: &mut Cell, line: u32, s: u32, owner: u32) -> Changed {
+    unsafe { tdma_release(cell, line, s, owner) }
 }
 
 #[inline]
 pub fn line(cell: &Cell, line: u32, frame: u32, direction: u32) -> LineAnswer {
-    unsafe { tdma_line(*cell, line, frame, direction) }
+    unsafe { tdma_line(cell, line, frame, direction) }
 }
 
 #[inline]
 pub fn who(cell: &Cell, tn: u32, arfcn: u32, frame: u32, direction: u32) -> WhoAnswer {
-    unsafe { tdma_who(*cell, tn, arfcn, frame, direction) }
+    unsafe { tdma_who(cell, tn, arfcn, frame, direction) }
 }
 
 #[inline]
 pub fn page(cell: &Cell, digits: &[u8], frame: u32) -> PageAnswer {
-    unsafe { tdma_page(*cell, digits.as_ptr(), digits.len(), frame) }
+    unsafe { tdma_page(cell, digits.as_ptr(), digits.len(), frame) }
 }
 
 /// A call on bursts, with the buffer that it reads and the one that it is lent as C passes them. The
 /// calls that read nothing leave `read` aside.
 ///
 /// # Safety
-/// `read` is readable and `lent` writable for its length, they don't overlap, and neither is null.
+/// `read` is readable and `lent` writable for its length, and they don't overlap.
 #[inline]
 pub unsafe fn burst_in_place(
     call: Call,

@@ -30,8 +30,15 @@ impl Run {
             0 => draw::odd_plan(random),
             _ => draw::plan(random),
         };
-        let started = library::start(&asked.ca, asked.c0, asked.bcc, asked.ag, asked.p);
-        let plan = match started.refusal {
+        let mut cell = library::unfilled();
+        let Plan {
+            ref ca,
+            c0,
+            bcc,
+            ag,
+            p,
+        } = asked;
+        let plan = match library::start(&mut cell, ca, c0, bcc, ag, p).refusal {
             0 => asked,
             _ => Plan::new([0], 0, 0, 0, 2),
         };
@@ -39,7 +46,7 @@ impl Run {
         let mut run = Run {
             plan,
             calls: Vec::new(),
-            cell: started.cell,
+            cell,
         };
         for _ in 0..length {
             let call = draw::call(random, &second, times);
@@ -50,9 +57,8 @@ impl Run {
     }
 
     fn make(&mut self, call: Call) {
-        if let Some(changed) = change(&self.cell, &call) {
+        if let Some(changed) = change(&mut self.cell, &call) {
             self.calls.push((call, changed.refusal == 0));
-            self.cell = changed.cell;
         }
     }
 

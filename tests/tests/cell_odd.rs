@@ -1,12 +1,12 @@
 //! The calls of the cell on odd input: values at their type's largest, cell allocations that are
-//! none, the cell that a refused start hands back, and storage that no call has filled.
+//! none, the cell that a refused start leaves, and storage that no call has filled.
 
 use tdma_tests::calls::{change, Both, Call};
 use tdma_tests::cell::{Plan, Six, Values};
 use tdma_tests::clock::HYPERFRAME;
 use tdma_tests::draw;
 use tdma_tests::frame_map::Channel;
-use tdma_tests::library::{self, LineAnswer, PageAnswer, WhoAnswer};
+use tdma_tests::library::{self, Changed, LineAnswer, PageAnswer, WhoAnswer, WORDS};
 use tdma_tests::paging::Imsi;
 use tdma_tests::random::Random;
 use tdma_tests::{CELL_ALLOCATION, CELL_PARAMETER, COMMON_CHANNEL, LINE_CLOSED, LINE_HELD};
@@ -170,7 +170,7 @@ fn is_the_refused_cell(both: &Both) {
 }
 
 #[test]
-fn a_refused_start_hands_back_the_cell_with_arfcn_0() {
+fn a_refused_start_leaves_the_cell_with_arfcn_0() {
     let starts = [
         (Plan::new([20, 10], 10, 7, 7, 5), CELL_ALLOCATION),
         (Plan::new([], 10, 7, 7, 5), CELL_ALLOCATION),
@@ -184,6 +184,21 @@ fn a_refused_start_hands_back_the_cell_with_arfcn_0() {
         let (refusal, both) = Both::start(&plan);
         assert_eq!(refusal, number, "{plan:?}");
         is_the_refused_cell(&both);
+    }
+}
+
+/// Start fills all of the storage, whatever it held, accepted or refused.
+#[test]
+fn start_fills_any_storage() {
+    let (mut random, filled) = (Random(20), three_lines().library);
+    for plan in [plan(), Plan::new([20, 10], 10, 7, 7, 5)] {
+        let (refusal, Both { library, .. }) = Both::start(&plan);
+        for fill in 0..50 {
+            let mut cell = storage(&mut random, &filled, fill);
+            let started = library::start(&mut cell, &plan.ca, plan.c0, plan.bcc, plan.ag, plan.p);
+            assert_eq!(started, Changed { refusal, line: 0 }, "{plan:?}");
+            assert!(cell == library, "{plan:?}, storage {fill}");
+        }
     }
 }
 
@@ -217,7 +232,7 @@ fn page_returns(cell: &library::Cell, imsi: &Imsi, frame: u32, odd: bool) {
     assert_eq!(answer == refused, odd, "{answer:?}");
 }
 
-/// A call on storage returns; where it is refused, it hands the storage back as it came.
+/// A call on storage returns; where it is refused, it leaves the storage as it was.
 fn returns(cell: &library::Cell, call: &Call, odd: bool) {
     match *call {
         Call::Line(line, frame, direction) => line_returns(cell, line, frame, direction),
@@ -226,25 +241,26 @@ fn returns(cell: &library::Cell, call: &Call, odd: bool) {
         }
         Call::Page(ref imsi, frame) => page_returns(cell, imsi, frame, odd),
         _ => {
-            let changed = change(cell, call).unwrap();
+            let mut after = *cell;
+            let changed = change(&mut after, call).unwrap();
             assert!(changed.refusal <= LINE_HELD, "{call:?}");
-            assert!(changed.refusal == 0 || changed.cell == *cell, "{call:?}");
+            assert!(changed.refusal == 0 || after == *cell, "{call:?}");
         }
     }
 }
 
 /// Storage filled with zeros, with ones, with random numbers or with small ones; or by the calls, but
 /// with one word changed then.
-fn storage(random: &mut Random, filled: &library::Cell, fill: u32) -> library::Cell {
-    let (mut cell, any) = (*filled, random.word());
+fn storage(random: &mut Random, filled: &library::Cell, fill: usize) -> library::Cell {
+    let (mut cell, any) = (*filled, random.word() as u32);
     match fill % 5 {
-        0 => cell.opaque = [0; 531],
-        1 => cell.opaque = [u64::MAX; 531],
-        2 => cell.opaque = std::array::from_fn(|_| random.word()),
-        3 => cell.opaque = std::array::from_fn(|_| random.word() & 0x0000_0007_0000_0007),
+        0 => cell.opaque = [0; WORDS],
+        1 => cell.opaque = [u32::MAX; WORDS],
+        2 => cell.opaque = std::array::from_fn(|_| random.word() as u32),
+        3 => cell.opaque = std::array::from_fn(|_| random.below(8)),
         _ => {
-            let word = random.one_of(&[0, 1 << 32, u64::MAX, any]);
-            cell.opaque[(fill / 5) as usize % 531] = word;
+            let word = random.one_of(&[0, 1, 1 << 16, u32::MAX, any]);
+            cell.opaque[fill / 5] = word;
         }
     }
     cell
@@ -260,7 +276,7 @@ fn questions(random: &mut Random) -> [Call; 2] {
 #[test]
 fn storage_that_no_call_has_filled() {
     let (mut random, filled) = (Random(9), three_lines().library);
-    for fill in 0..5 * 531 {
+    for fill in 0..5 * WORDS {
         let cell = storage(&mut random, &filled, fill);
         for (call, refusals) in ACCEPTED {
             for bits in 0..1 << refusals.len() {

@@ -39,7 +39,8 @@ fn script(both: &mut Both, calls: &[(Call, u32)]) {
 
 /// The call is a clash with this line.
 fn clash(both: &mut Both, call: Call, line: u32) {
-    let changed = change(&both.library, &call).unwrap();
+    let mut cell = both.library;
+    let changed = change(&mut cell, &call).unwrap();
     assert_eq!((changed.refusal, changed.line), (9, line), "{call:?}");
     assert_eq!(both.make(&call), 9);
 }

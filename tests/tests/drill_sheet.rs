@@ -1,7 +1,7 @@
 //! The rows of document 01's drill sheet, asked of the C interface.
 
 use tdma_tests::frame_map::Channel;
-use tdma_tests::library::{hop, join, map, open, page, split, start};
+use tdma_tests::library::{hop, join, map, open, page, split, start, unfilled};
 use tdma_tests::library::{HopAnswer, MapAnswer, PageAnswer};
 
 const CA: [u16; 4] = [10, 20, 30, 40];
@@ -65,8 +65,9 @@ fn control() {
 
 #[test]
 fn paging() {
-    let started = start(&CA, 10, 0, 1, 5);
-    let opened = open(&started.cell, 0, &(0, 1, 0, 0, 4, 0).into());
+    let mut cell = unfilled();
+    let started = start(&mut cell, &CA, 10, 0, 1, 5);
+    let opened = open(&mut cell, 0, &(0, 1, 0, 0, 4, 0).into());
     assert_eq!((started.refusal, opened.refusal), (0, 0));
     let answer = PageAnswer {
         refusal: 0,
@@ -74,5 +75,5 @@ fn paging() {
         block: 4,
         frame: 26,
     };
-    assert_eq!(page(&opened.cell, &[1, 2, 3], 0), answer);
+    assert_eq!(page(&cell, &[1, 2, 3], 0), answer);
 }
