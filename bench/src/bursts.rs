@@ -6,7 +6,6 @@
 
 use crate::timing::{contender, Contender, Line, Table};
 use crate::{inputs, INPUTS};
-use std::cell::RefCell;
 use std::hint::black_box;
 use std::ptr::copy_nonoverlapping;
 use tdma_tests::bursts::Call::{self, *};
@@ -96,11 +95,10 @@ where
         assert_eq!(make(call, read, &mut lent), 0, "{name}, {call:?}");
         assert_eq!(lent, *written, "{name}, {call:?}");
     }
-    let buffer = RefCell::new([0; 148]);
+    let mut buffer = [0; 148];
     contender(name, asked, move |&(call, read)| {
-        let mut buffer = buffer.borrow_mut();
         let refusal = make(call, read, &mut buffer[..room]);
-        black_box(&*buffer);
+        black_box(&buffer);
         refusal
     })
 }
@@ -136,11 +134,7 @@ fn line(label: &str, asked: Asked) -> Line {
             },
         ),
     ];
-    Line {
-        label: label.into(),
-        inputs: INPUTS,
-        contenders,
-    }
+    Line::new(label, INPUTS, contenders)
 }
 
 /// A payload that is built into a burst, and that burst.
@@ -161,8 +155,11 @@ fn drawn(random: &mut Random, build: Call) -> Drawn {
     }
 }
 
+/// Makes the call that builds a burst, with this code if it has one.
+type Build = fn(u32) -> Call;
+
 /// Bursts with random payloads, drawn once; normal ones have a random code.
-fn bursts(random: &mut Random, build: fn(u32) -> Call) -> &'static [Drawn] {
+fn bursts(random: &mut Random, build: Build) -> &'static [Drawn] {
     let draw = |_| {
         let tsc = random.below(8);
         drawn(random, build(tsc))
@@ -174,7 +171,7 @@ fn one(random: &mut Random, bursts: &'static [Drawn]) -> &'static Drawn {
     &bursts[random.below(PAYLOADS as u32) as usize]
 }
 
-fn build_line(random: &mut Random, label: &str, build: fn(u32) -> Call) -> Line {
+fn build_line(random: &mut Random, label: &str, build: Build) -> Line {
     let bursts = bursts(random, build);
     let asked = inputs(|| {
         let burst = one(random, bursts);
@@ -193,7 +190,7 @@ fn take(build: Call) -> Call {
     }
 }
 
-fn take_line(random: &mut Random, label: &str, build: fn(u32) -> Call) -> Line {
+fn take_line(random: &mut Random, label: &str, build: Build) -> Line {
     let bursts = bursts(random, build);
     let asked = inputs(|| {
         let burst = one(random, bursts);
@@ -203,7 +200,7 @@ fn take_line(random: &mut Random, label: &str, build: fn(u32) -> Call) -> Line {
 }
 
 pub fn table(random: &mut Random) -> Table {
-    let kinds: [(&str, fn(u32) -> Call); 5] = [
+    let kinds: [(&str, Build); 5] = [
         ("normal", BuildNormal),
         ("synchronization", |_| BuildSynchronization),
         ("access", |_| BuildAccess),

@@ -27,11 +27,7 @@ fn leak<T>(count: usize, mut draw: impl FnMut() -> T) -> &'static [T] {
 }
 
 pub fn line(label: String, contenders: Vec<Contender>) -> Line {
-    Line {
-        label,
-        inputs: CALLS,
-        contenders,
-    }
+    Line::new(label, CALLS, contenders)
 }
 
 /// The opens of a full cell, eight lines to a timeslot: with N = 1 they have an ARFCN each, with N

@@ -45,14 +45,9 @@ fn clock_table(random: &mut Random) -> Table {
             u32::from(time.t1) + u32::from(time.t2) + u32::from(time.t3)
         }),
     ];
-    let line = Line {
-        label: "split".into(),
-        inputs: INPUTS,
-        contenders,
-    };
     Table {
         title: "clock",
-        lines: vec![line],
+        lines: vec![Line::new("split", INPUTS, contenders)],
     }
 }
 
@@ -108,11 +103,8 @@ fn position_table(random: &mut Random) -> Table {
                     osmocore::hop(&l.ma, l.hsn, l.maio, frame)
                 }),
             ];
-            lines.push(Line {
-                label: format!("N = {n}, HSN {hsn}"),
-                inputs: INPUTS,
-                contenders,
-            });
+            let label = format!("N = {n}, HSN {hsn}");
+            lines.push(Line::new(label, INPUTS, contenders));
         }
     }
     Table {
@@ -136,11 +128,7 @@ fn hop_table(random: &mut Random) -> Table {
                 osmocore::hop(&l.ma, l.hsn, l.maio, frame)
             }),
         ];
-        Line {
-            label: format!("CA of {n}, N = {n}"),
-            inputs: INPUTS,
-            contenders,
-        }
+        Line::new(format!("CA of {n}, N = {n}"), INPUTS, contenders)
     };
     Table {
         title: "hopping: ARFCN, CA checked",
@@ -210,11 +198,7 @@ fn map_line(random: &mut Random, read: Reader, label: String, combinations: &[u3
             read(plain.map(p.combination, p.tn, p.frame, p.direction))
         }),
     ];
-    Line {
-        label,
-        inputs: INPUTS,
-        contenders,
-    }
+    Line::new(label, INPUTS, contenders)
 }
 
 fn map_table(random: &mut Random, title: &'static str, read: Reader) -> Table {

@@ -11,10 +11,11 @@ use std::time::Instant;
 const VISITS: usize = 20;
 const TURNS: usize = 4;
 
-/// A contender: a name, and a pass over all inputs that gives the sum of the answers.
+/// A contender: a name, and a pass over all inputs that gives the sum of the answers. What a pass
+/// changes it puts back, so that each begins with the same.
 pub struct Contender {
     name: &'static str,
-    pass: Box<dyn Fn() -> u64>,
+    pass: Box<dyn FnMut() -> u64>,
     quickest: f64,
 }
 
@@ -22,7 +23,7 @@ pub struct Contender {
 pub fn contender<I>(
     name: &'static str,
     inputs: &'static [I],
-    answer: impl Fn(&I) -> u32 + 'static,
+    mut answer: impl FnMut(&I) -> u32 + 'static,
 ) -> Contender {
     let pass = move || {
         let answers = inputs.iter().map(|input| answer(black_box(input)));
@@ -37,16 +38,24 @@ pub fn contender<I>(
 
 /// Contenders that answer the same question on the same inputs.
 pub struct Line {
-    pub label: String,
-    pub inputs: usize,
-    pub contenders: Vec<Contender>,
+    label: String,
+    inputs: usize,
+    contenders: Vec<Contender>,
 }
 
 impl Line {
+    pub fn new(label: impl Into<String>, inputs: usize, contenders: Vec<Contender>) -> Line {
+        Line {
+            label: label.into(),
+            inputs,
+            contenders,
+        }
+    }
+
     /// All contenders must give the same sum.
-    fn compare(&self) {
+    fn compare(&mut self) {
         let sum = (self.contenders[0].pass)();
-        for other in &self.contenders {
+        for other in &mut self.contenders {
             assert_eq!(sum, (other.pass)(), "{}, {}", self.label, other.name);
         }
     }
@@ -63,11 +72,19 @@ impl Line {
         }
     }
 
+    /// The ratio of the library, which comes first, to a contender.
+    fn ratio(&self, other: &Contender) -> f64 {
+        self.contenders[0].quickest / other.quickest
+    }
+
     fn print(&self) {
         print!("{:<28}", self.label);
         for contender in &self.contenders {
-            let ratio = self.contenders[0].quickest / contender.quickest;
-            print!("{:>17.1} {:>8.2}", contender.quickest, ratio);
+            print!(
+                "{:>17.1} {:>8.2}",
+                contender.quickest,
+                self.ratio(contender)
+            );
         }
         println!();
     }
@@ -92,7 +109,7 @@ impl Table {
 
 /// Compares the answers, measures, and prints nanoseconds and the ratio of the first contender to each.
 pub fn run(mut tables: Vec<Table>) {
-    let lines = tables.iter().flat_map(|table| &table.lines);
+    let lines = tables.iter_mut().flat_map(|table| &mut table.lines);
     lines.for_each(Line::compare);
     for _ in 0..VISITS {
         let lines = tables.iter_mut().flat_map(|table| &mut table.lines);
