@@ -1,4 +1,5 @@
-//! Hopping: the position, and the ARFCN with the check of the cell allocation in each call.
+//! Hopping: the position beside libosmocore, and the ARFCN with the check of the cell allocation in
+//! each call.
 
 use crate::timing::{contender, Line, Table};
 use crate::{inputs, osmocore, INPUTS};
@@ -22,25 +23,24 @@ struct RadioLine {
     maio: u32,
 }
 
-/// A line with N ones in a cell allocation of `length` entries, which are their own positions, so
+/// A line with this mask in a cell allocation of `length` entries, which are their own positions, so
 /// that position and ARFCN are the same number.
-fn radio_line(random: &mut Random, n: u32, length: u32, cyclic: bool) -> RadioLine {
-    let mask = random.mask(n, length);
+fn radio_line(random: &mut Random, mask: u64, length: u32, cyclic: bool) -> RadioLine {
     let ma = hopping::positions(mask).into_iter();
     RadioLine {
         ca: (0..length as u16).collect(),
         mask,
         ma: ma.map(|position| position as u16).collect(),
         hsn: if cyclic { 0 } else { 1 + random.below(63) },
-        maio: random.below(n),
+        maio: random.below(mask.count_ones()),
     }
 }
 
 /// Which line is asked for which frame.
 type Asked = &'static [(&'static RadioLine, u32)];
 
-fn asked(random: &mut Random, n: u32, length: u32, cyclic: bool) -> Asked {
-    let lines = (0..RADIO_LINES).map(|_| radio_line(random, n, length, cyclic));
+fn asked(random: &mut Random, mut draw: impl FnMut(&mut Random) -> RadioLine) -> Asked {
+    let lines = (0..RADIO_LINES).map(|_| draw(random));
     let lines: &'static [RadioLine] = lines.collect::<Vec<RadioLine>>().leak();
     inputs(|| {
         let line = &lines[random.below(RADIO_LINES as u32) as usize];
@@ -48,37 +48,57 @@ fn asked(random: &mut Random, n: u32, length: u32, cyclic: bool) -> Asked {
     })
 }
 
+/// Which bits of 64 a mask has.
+#[derive(Clone, Copy)]
+enum Bits {
+    Lowest,
+    Random,
+}
+
+fn mask(random: &mut Random, bits: Bits, n: u32) -> u64 {
+    match bits {
+        Bits::Lowest => u64::MAX >> (64 - n),
+        Bits::Random => random.mask(n, 64),
+    }
+}
+
 /// The position, in a cell allocation of 64 entries.
-pub fn position_table(random: &mut Random) -> Table {
+fn position_line(label: String, asked: Asked) -> Line {
+    let contenders = vec![
+        contender("library", asked, |&(l, frame)| {
+            library::position(64, l.mask, l.hsn, l.maio, frame).position
+        }),
+        contender("libosmocore", asked, |&(l, frame)| {
+            osmocore::hop(&l.ma, l.hsn, l.maio, frame)
+        }),
+    ];
+    Line::new(label, INPUTS, contenders)
+}
+
+/// Dense and sparse masks, with the limits.
+pub fn position_lines(random: &mut Random) -> Vec<Line> {
     let mut lines = Vec::new();
-    for (cyclic, hsn) in [(false, "1 to 63"), (true, "0")] {
-        for n in NS {
-            let asked = asked(random, n, 64, cyclic);
-            let contenders = vec![
-                contender("library", asked, |&(l, frame)| {
-                    library::position(64, l.mask, l.hsn, l.maio, frame).position
-                }),
-                contender("second (lists)", asked, |&(l, frame)| {
-                    hopping::position(64, l.mask, l.hsn, l.maio, frame).unwrap()
-                }),
-                contender("libosmocore, unchecked", asked, |&(l, frame)| {
-                    osmocore::hop(&l.ma, l.hsn, l.maio, frame)
-                }),
-            ];
-            let label = format!("N = {n}, HSN {hsn}");
-            lines.push(Line::new(label, INPUTS, contenders));
+    for (bits, kind) in [(Bits::Lowest, "dense"), (Bits::Random, "sparse")] {
+        for (cyclic, hsn) in [(false, "1 to 63"), (true, "0")] {
+            lines.extend(NS.map(|n| {
+                let asked = asked(random, |random| {
+                    let mask = mask(random, bits, n);
+                    radio_line(random, mask, 64, cyclic)
+                });
+                let label = format!("position, {kind} N = {n}, HSN {hsn}");
+                position_line(label, asked).within(1.5, 1.0)
+            }));
         }
     }
-    Table {
-        title: "hopping: position",
-        lines,
-    }
+    lines
 }
 
 /// The ARFCN, with the check of a cell allocation of N entries in each call.
 pub fn table(random: &mut Random) -> Table {
     let line = |n: u32| {
-        let asked = asked(random, n, n, false);
+        let asked = asked(random, |random| {
+            radio_line(random, u64::MAX >> (64 - n), n, false)
+        });
         let contenders = vec![
             contender("library", asked, |&(l, frame)| {
                 library::hop(&l.ca, l.mask, l.hsn, l.maio, frame).arfcn

@@ -1,11 +1,14 @@
 //! Nanoseconds for each call of the library, beside the second implementation of `tests/`,
 //! libosmocore, plain tables and plain copies, on the same random inputs in one run.
 
-mod ask;
+mod air;
+mod bare;
 mod bursts;
 mod cell;
+mod cells;
 mod hop;
 mod osmocore;
+mod pairs;
 mod plain;
 mod timing;
 
@@ -118,21 +121,38 @@ fn map_table(random: &mut Random, title: &'static str, read: Reader) -> Table {
     Table { title, lines }
 }
 
+/// The rows that have limits.
+fn ratios(random: &mut Random) -> Table {
+    let mut lines = hop::position_lines(random);
+    lines.extend(air::line_lines(random));
+    lines.extend(air::who_lines(random));
+    lines.push(pairs::hold_line(random));
+    lines.extend(pairs::opening_lines(random));
+    lines.extend(air::frame_lines(random));
+    Table {
+        title: "ratios",
+        lines,
+    }
+}
+
+fn others(random: &mut Random) -> Vec<Table> {
+    let mut tables = vec![
+        clock_table(random),
+        hop::table(random),
+        map_table(random, "map, read field by field", field_by_field),
+        map_table(random, "map, fields added up", added_up),
+        map_table(random, "map, channel read only", channel_only),
+        map_table(random, "map, answer stored", stored),
+    ];
+    tables.extend(cell::tables(random));
+    tables.push(bursts::table(random));
+    tables
+}
+
 fn main() {
     let mut random = Random(5);
     println!("Nanoseconds for each call, and the ratio of the library's to it");
     println!("(below 1: the library is quicker).");
-    let mut tables = vec![
-        clock_table(&mut random),
-        hop::position_table(&mut random),
-        hop::table(&mut random),
-        map_table(&mut random, "map, read field by field", field_by_field),
-        map_table(&mut random, "map, fields added up", added_up),
-        map_table(&mut random, "map, channel read only", channel_only),
-        map_table(&mut random, "map, answer stored", stored),
-    ];
-    tables.extend(cell::tables(&mut random));
-    tables.extend(ask::tables(&mut random));
-    tables.push(bursts::table(&mut random));
-    timing::run(tables);
+    let limited = vec![ratios(&mut random)];
+    timing::run(limited, others(&mut random));
 }

@@ -36,11 +36,25 @@ pub fn contender<I>(
     }
 }
 
+/// The ratio to the second contender that must be kept, and the one that is aimed at.
+#[derive(Clone, Copy)]
+struct Limits {
+    must: f64,
+    aim: f64,
+}
+
 /// Contenders that answer the same question on the same inputs.
 pub struct Line {
     label: String,
     inputs: usize,
     contenders: Vec<Contender>,
+    limits: Option<Limits>,
+}
+
+/// Whether a limit is kept.
+fn against(ratio: f64, limit: f64) -> String {
+    let kept = if ratio <= limit { "yes" } else { "NO" };
+    format!("{limit:.1} {kept:<3}")
 }
 
 impl Line {
@@ -49,7 +63,13 @@ impl Line {
             label: label.into(),
             inputs,
             contenders,
+            limits: None,
         }
+    }
+
+    pub fn within(mut self, must: f64, aim: f64) -> Line {
+        self.limits = Some(Limits { must, aim });
+        self
     }
 
     /// All contenders must give the same sum.
@@ -88,15 +108,38 @@ impl Line {
         }
         println!();
     }
+
+    /// Whether must and aim are kept, if there are limits.
+    fn kept(&self) -> Option<(bool, bool)> {
+        let ratio = self.ratio(&self.contenders[1]);
+        let limits = self.limits?;
+        Some((ratio <= limits.must, ratio <= limits.aim))
+    }
+
+    /// A row for each contender beside the library. The limits are those to the first of them.
+    fn print_rows(&self) {
+        let mut limits = self.limits;
+        for other in &self.contenders[1..] {
+            let ratio = self.ratio(other);
+            let (must, aim) = limits.take().map_or(("-".into(), "-".into()), |limits| {
+                (against(ratio, limits.must), against(ratio, limits.aim))
+            });
+            println!(
+                "{:<42}{:>9.1}{:>10.1}{ratio:>8.2}  {must:<9}{aim:<9}{}",
+                self.label, self.contenders[0].quickest, other.quickest, other.name
+            );
+        }
+    }
 }
 
-/// Lines with the same contenders, under a title.
+/// Lines under a title.
 pub struct Table {
     pub title: &'static str,
     pub lines: Vec<Line>,
 }
 
 impl Table {
+    /// A row for each line, all of which have the same contenders.
     fn print(&self) {
         print!("\n{:<28}", self.title);
         for contender in &self.lines[0].contenders {
@@ -105,15 +148,35 @@ impl Table {
         println!();
         self.lines.iter().for_each(Line::print);
     }
+
+    /// A row for each contender beside the library.
+    fn print_rows(&self) {
+        println!(
+            "\n{:<42}{:>9}{:>10}{:>8}  {:<9}{:<9}beside",
+            self.title, "library", "other", "ratio", "must", "aim"
+        );
+        self.lines.iter().for_each(Line::print_rows);
+        let kept: Vec<(bool, bool)> = self.lines.iter().filter_map(Line::kept).collect();
+        if !kept.is_empty() {
+            let must = kept.iter().filter(|(must, _)| *must).count();
+            let aim = kept.iter().filter(|(_, aim)| *aim).count();
+            let all = kept.len();
+            println!("must: kept in {must} of {all}, aim: reached in {aim} of {all}");
+        }
+    }
 }
 
-/// Compares the answers, measures, and prints nanoseconds and the ratio of the first contender to each.
-pub fn run(mut tables: Vec<Table>) {
-    let lines = tables.iter_mut().flat_map(|table| &mut table.lines);
-    lines.for_each(Line::compare);
-    for _ in 0..VISITS {
-        let lines = tables.iter_mut().flat_map(|table| &mut table.lines);
-        lines.for_each(Line::measure);
+/// Compares the answers, measures, and prints nanoseconds and the ratio of the first contender to
+/// each: of `ratios` row by row with the limits, of `tables` as they are.
+pub fn run(mut ratios: Vec<Table>, mut tables: Vec<Table>) {
+    let mut all: Vec<&mut Line> = Vec::new();
+    for table in ratios.iter_mut().chain(&mut tables) {
+        all.extend(&mut table.lines);
     }
+    all.iter_mut().for_each(|line| line.compare());
+    for _ in 0..VISITS {
+        all.iter_mut().for_each(|line| line.measure());
+    }
+    ratios.iter().for_each(Table::print_rows);
     tables.iter().for_each(Table::print);
 }
