@@ -200,14 +200,15 @@ type DrawPlace = fn(&mut Random, &cell::Cell) -> Place;
 const THE_LAST: (&str, DrawPlace) = ("the last", hit);
 const NOBODY: (&str, DrawPlace) = ("nobody", miss);
 
+/// Who on a cell with the last `count` of 64 lines, so that timeslot 7 is the first to have any.
 fn who_line(
     random: &mut Random,
     lines: &str,
-    opens: DrawOpens,
+    (count, opens): (usize, DrawOpens),
     (ask, place): (&str, DrawPlace),
 ) -> Line {
     let cells = prepared(|| {
-        let opens = opens(random);
+        let opens = opens(random).split_off(64 - count);
         after(empty(random), &opens)
     });
     let asked: &[(&Prepared, Place)] = leak(CALLS, || {
@@ -238,7 +239,21 @@ pub fn who_lines(random: &mut Random) -> Vec<Line> {
     let mut lines = Vec::new();
     for (kind, opens) in kinds {
         for ask in [THE_LAST, NOBODY] {
-            lines.push(who_line(random, kind, opens, ask).within(0.5, 0.2));
+            lines.push(who_line(random, kind, (64, opens), ask).within(0.5, 0.2));
+        }
+    }
+    lines
+}
+
+/// Who with more and more lines open, eight to a timeslot.
+pub fn who_growth(random: &mut Random) -> Vec<Line> {
+    let asks = [(THE_LAST, vec![16, 32, 64]), (NOBODY, vec![0, 16, 32, 64])];
+    let mut lines = Vec::new();
+    for (ask, counts) in asks {
+        for count in counts {
+            let label = format!("{count} lines");
+            let cell: (usize, DrawOpens) = (count, |r| opens(r, 8, false));
+            lines.push(who_line(random, &label, cell, ask));
         }
     }
     lines

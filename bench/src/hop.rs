@@ -93,6 +93,19 @@ pub fn position_lines(random: &mut Random) -> Vec<Line> {
     lines
 }
 
+/// Every N, with dense and sparse masks mixed.
+pub fn position_growth(random: &mut Random) -> Vec<Line> {
+    let line = |n: u32| {
+        let asked = asked(random, |random| {
+            let bits = random.one_of(&[Bits::Lowest, Bits::Random]);
+            let mask = mask(random, bits, n);
+            radio_line(random, mask, 64, false)
+        });
+        position_line(format!("position, N = {n}, HSN 1 to 63"), asked)
+    };
+    NS.map(line).into()
+}
+
 /// The ARFCN, with the check of a cell allocation of N entries in each call.
 pub fn table(random: &mut Random) -> Table {
     let line = |n: u32| {

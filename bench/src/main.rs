@@ -135,6 +135,17 @@ fn ratios(random: &mut Random) -> Table {
     }
 }
 
+/// How the time grows with the open lines, and with N.
+fn growth(random: &mut Random) -> Table {
+    let mut lines = pairs::opening_growth(random);
+    lines.extend(air::who_growth(random));
+    lines.extend(hop::position_growth(random));
+    Table {
+        title: "growth",
+        lines,
+    }
+}
+
 fn others(random: &mut Random) -> Vec<Table> {
     let mut tables = vec![
         clock_table(random),
@@ -153,6 +164,6 @@ fn main() {
     let mut random = Random(5);
     println!("Nanoseconds for each call, and the ratio of the library's to it");
     println!("(below 1: the library is quicker).");
-    let limited = vec![ratios(&mut random)];
+    let limited = vec![ratios(&mut random), growth(&mut random)];
     timing::run(limited, others(&mut random));
 }

@@ -136,13 +136,13 @@ fn opening_contenders(cells: &[Both], asked: &'static [Opening]) -> Vec<Contende
     ]
 }
 
-/// The pair of line 63, on a cell with the lines before it.
-fn opening_line(random: &mut Random, label: String, opens: DrawOpens) -> Line {
+/// The pair of line 63, on a cell with the `count` lines before it.
+fn opening_line(random: &mut Random, label: String, count: usize, opens: DrawOpens) -> Line {
     let mut last = Vec::new();
     let cells = cells(|| {
         let mut opens = opens(random);
         last.extend(opens.pop());
-        after(empty(random), &opens)
+        after(empty(random), &opens[63 - count..])
     });
     let asked = leak(CALLS, || {
         let cell = one_cell(random);
@@ -164,7 +164,16 @@ pub fn opening_lines(random: &mut Random) -> Vec<Line> {
     ];
     let line = |(kind, opens)| {
         let label = format!("open + close, 63 lines {kind}");
-        opening_line(random, label, opens).within(2.0, 1.0)
+        opening_line(random, label, 63, opens).within(2.0, 1.0)
     };
     kinds.map(line).into()
+}
+
+/// The pair of line 63 with more and more lines open before it, eight to a timeslot.
+pub fn opening_growth(random: &mut Random) -> Vec<Line> {
+    let line = |count| {
+        let label = format!("open + close, {count} lines");
+        opening_line(random, label, count, |random| opens(random, 8, false))
+    };
+    [0, 16, 32, 63].map(line).into()
 }
