@@ -13,6 +13,7 @@ mod plain;
 mod timing;
 
 use std::hint::black_box;
+use std::process::ExitCode;
 use tdma_tests::clock::{self, HYPERFRAME};
 use tdma_tests::frame_map::{self, COMBINATIONS};
 use tdma_tests::library::{self, MapAnswer};
@@ -160,10 +161,20 @@ fn others(random: &mut Random) -> Vec<Table> {
     tables
 }
 
-fn main() {
+/// Without an argument all is measured; with `count` the passes are made that bench/count counts.
+fn main() -> ExitCode {
     let mut random = Random(5);
-    println!("Nanoseconds for each call, and the ratio of the library's to it");
-    println!("(below 1: the library is quicker).");
     let limited = vec![ratios(&mut random), growth(&mut random)];
-    timing::run(limited, others(&mut random));
+    let arguments: Vec<String> = std::env::args().skip(1).collect();
+    if arguments.is_empty() {
+        println!("Nanoseconds for each call, and the ratio of the library's to it");
+        println!("(below 1: the library is quicker).");
+        timing::run(limited, others(&mut random));
+    } else if arguments == ["count"] {
+        timing::count(limited);
+    } else {
+        eprintln!("usage: tdma_bench [count]");
+        return ExitCode::FAILURE;
+    }
+    ExitCode::SUCCESS
 }

@@ -180,3 +180,28 @@ pub fn run(mut ratios: Vec<Table>, mut tables: Vec<Table>) {
     ratios.iter().for_each(Table::print_rows);
     tables.iter().for_each(Table::print);
 }
+
+/// The pass that bench/count counts: a function by itself, which has its name in the program and
+/// calls the pass instead of jumping to it.
+#[no_mangle]
+#[inline(never)]
+fn counted_pass(pass: &mut dyn FnMut() -> u64) -> u64 {
+    black_box(pass())
+}
+
+/// Compares the answers, and makes one counted pass of each contender. Prints, for each in turn, the
+/// table, the line, the contender and the number of calls, with tabs between them.
+pub fn count(tables: Vec<Table>) {
+    for mut table in tables {
+        for line in &mut table.lines {
+            line.compare();
+            for contender in &mut line.contenders {
+                black_box(counted_pass(&mut contender.pass));
+                println!(
+                    "{}\t{}\t{}\t{}",
+                    table.title, line.label, contender.name, line.inputs
+                );
+            }
+        }
+    }
+}
