@@ -1,8 +1,8 @@
 -- The laws of NBIN, RNTABLE, S and MAI. Assumes nothing.
 use Prim.Native.Nat.{ℕ, _+_, _*_, _-_, _%_, _^_, _≤_, _<_}
 use mathlib.Core.Path.{_≡_, refl, sym, ap, _∙_, subst}
-use mathlib.Core.Bool.{Bool, true, false, cond}
-use native.Mathlib.Nat.{one-mul, mod-lt}
+use mathlib.Core.Bool.{Bool, true, false, _||_, cond}
+use native.Mathlib.Nat.{one-mul, mod-lt, mod-eq-of-lt, add-mod-right, mod-mod-of-dvd, dvd-mul-left}
 use native.Mathlib.Omega.{arith}
 use lib.Bits.{bitXor, xor-lt}
 use lib.Count as Count
@@ -12,6 +12,7 @@ use lib.Pow.{pow-pos, shl-exact}
 use borrow.Author.Tests.{lt-ltb, le-ltb, ltb-true, ltb-false, leb-true, eqb-true, eq-eqb, ne-eqb}
 use Rattle.answers.specs.Search.{allBelow, least}
 use Rattle.answers.proofs.Search.{all-at, First, first-of, least-first}
+use Rattle.answers.proofs.Tests.{or-rest}
 use Rattle.answers.proofs.Tables.{every, at-most}
 use Rattle.clock.specs.declared.Frame.{Frame}
 use Rattle.clock.specs.Clock.{partsOf}
@@ -65,6 +66,32 @@ room-is n h =
 
 pub room-pos : (n : ℕ) → n ≤ 64 → 0 < roomOf n
 room-pos n h = let e = room-is n h in let p = pow-pos (nbin n) in omega arith
+
+-- fewer bits would not do, so that the room is at most twice N: one test over the 65 numbers
+tight : ℕ → Bool
+tight n = eqb n 0 || leb (2 ^ nbin n) (n + n)
+
+all-tight : allBelow tight 65 ≡ true
+unfolding tight nbin least allBelow
+all-tight = refl
+
+pub room-le : (n : ℕ) → 0 < n → n ≤ 64 → roomOf n ≤ n + n
+unfolding tight
+room-le n p h =
+    let t : (eqb n 0 || leb (2 ^ nbin n) (n + n)) ≡ true = all-at tight 65 all-tight n (omega arith) in
+    let l : 2 ^ nbin n ≤ n + n = leb-true _ _ (or-rest _ _ (ne-eqb n 0 (λ z. omega arith)) t) in
+    subst (λ (k : ℕ). k ≤ n + n) (sym (room-is n h)) l
+
+-- ---- remainders by subtraction
+
+pub less-once : (x n : ℕ) → n ≤ x → x < n + n → x - n ≡ x % n
+less-once x n a b =
+    let e : (x - n) + n ≡ x = omega arith in
+    sym (ap (λ (k : ℕ). k % n) (sym e) ∙ (add-mod-right (x - n) n ∙ mod-eq-of-lt (let q : x - n < n = omega arith in q)))
+
+-- twice n first, then n
+pub twice-once : (x n : ℕ) → x % (2 * n) % n ≡ x % n
+twice-once x n = mod-mod-of-dvd n x (dvd-mul-left n 2)
 
 -- ---- S
 

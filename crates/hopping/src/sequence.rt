@@ -1,7 +1,7 @@
 // The hopping sequence: MAI from N, HSN, MAIO and the frame.
 use clock::Frame;
 ghost use mathlib.Core.Path.{_≡_};
-ghost use Prim.Native.Nat.{_<_, _≤_};
+ghost use Prim.Native.Nat.{_<_, _≤_, _+_, _%_};
 ghost use Rattle.hopping.specs.Hopping.{S, maiOf};
 ghost use Rattle.clock.specs.Clock.{partsOf, hyperframe};
 
@@ -129,7 +129,18 @@ fn wide(x: u8) -> u32
     x as u32
 }
 
-// S of the frame with these counters. 2 to the power of NBIN is `room`.
+// x mod n, for x below twice n: a subtraction at most.
+fn wrapped(x: u32, n: u32) -> u32
+    requires { ⌜ x < n + n ⌝ }
+    ensures { λ r. ⌜ r ≡ x % n ⌝ }
+{
+    if x < n {
+        return x;
+    }
+    x - n
+}
+
+// S of the frame with these counters. 2 to the power of NBIN is `room`. Both cases are computed: which it is hangs on the frame, and cannot be foreseen.
 fn s(n: u32, hsn: u32, t1: u32, t2: u32, t3: u32) -> u32
     requires { ⌜ (0 < n) × (n ≤ 64) × (hsn < 64) × (t2 ≤ 25) × (t3 ≤ 50) ⌝ }
     ensures { λ r. ⌜ r ≡ S n hsn (record { t1 = t1; t2 = t2; t3 = t3 }) ⌝ }
@@ -138,10 +149,11 @@ fn s(n: u32, hsn: u32, t1: u32, t2: u32, t3: u32) -> u32
     let m = t2 + wide(RNTABLE[index as usize]);
     let room = 1u32 << (32 - u32::leading_zeros(n));
     let reduced = m % room;
+    let other = wrapped(wrapped(reduced + t3 % room, 2 * n), n);
     if reduced < n {
         return reduced;
     }
-    (reduced + t3 % room) % n
+    other
 }
 
 // MAI of frame FN, whose counters are `frame`.
@@ -155,5 +167,5 @@ pub(crate) fn mai(n: u32, hsn: u32, maio: u32, number: u32, frame: Frame) -> u32
     let t1 = frame.t1;
     let t2 = frame.t2;
     let t3 = frame.t3;
-    (s(n, hsn, t1, t2, t3) + maio) % n
+    wrapped(s(n, hsn, t1, t2, t3) + maio, n)
 }

@@ -1,4 +1,4 @@
--- `hopping::sequence::mai` meets its contract: the counters are those of the frame, so that S is document 01's. Assumes nothing.
+-- `sequence::mai` meets its contract: the counters are those of the frame, so that S is document 01's, and S and MAIO are below N. Assumes nothing.
 use Prim.Native.Nat.{ℕ, _+_, _%_}
 use mathlib.Core.Path.{_≡_, ap, _∙_}
 use native.Mathlib.Omega.{arith}
@@ -31,16 +31,16 @@ returns c = mai-cyclic _ _ _ _ (c .if1 .taken)
 s-requires : tie.Need-s-requires
 s-requires c κs = (omega arith, omega arith, omega arith, omega (arith, t2-is c), omega (arith, t3-is c))
 
-add-result-2 : tie.Need-add-result-2
-add-result-2 c =
-    omega (arith, s-is c, s-lt (c .before .before .args .n) (c .before .before .args .hsn) (partsOf (c .before .before .args .number)) (omega arith))
+add-wrapped : tie.Need-add-wrapped
+add-wrapped c = let x = c .before .before .args in omega (arith, s-is (c), s-lt (x .n) (x .hsn) (partsOf (x .number)) (omega arith))
 
-rem-result-2 : tie.Need-rem-result-2
-rem-result-2 c = search needs
+wrapped-requires : tie.Need-wrapped-requires
+wrapped-requires c κs = let x = c .before .before .args in omega (arith, s-is (c), s-lt (x .n) (x .hsn) (partsOf (x .number)) (omega arith))
 
 returns-2 : tie.Need-returns-2
 returns-2 c =
-    ap (λ (x : ℕ). (x + c .before .before .args .maio) % c .before .before .args .n) (s-is c) ∙ mai-random _ _ _ _ (c .before .if1 .left)
+    let x = c .before .before .before .args in
+    c .wrapped .ensures ∙ ap (λ (k : ℕ). (k + x .maio) % x .n) (s-is (c .before)) ∙ mai-random _ _ _ _ (c .before .before .if1 .left)
 
 pub mai-spec : {M : Type 1} → statement M
-mai-spec = tie.close (tie.spec add-result rem-result returns s-requires add-result-2 rem-result-2 returns-2)
+mai-spec = tie.close (tie.spec add-result rem-result returns s-requires add-wrapped wrapped-requires returns-2)

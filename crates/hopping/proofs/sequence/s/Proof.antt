@@ -1,7 +1,7 @@
--- `hopping::sequence::s` meets its contract: the index is within RNTABLE, and the shifted 1 is 2 to the power of NBIN. Assumes nothing.
-use Prim.Native.Nat.{_+_, _%_, _≤_}
-use mathlib.Core.Path.{_≡_, subst, sym}
-use native.Mathlib.Nat.{mod-le}
+-- `sequence::s` meets its contract: the index is within RNTABLE, the shifted 1 is 2 to the power of NBIN, and what is to be reduced is below four times n. Assumes nothing.
+use Prim.Native.Nat.{ℕ, _+_, _*_, _%_, _≤_, _<_}
+use mathlib.Core.Path.{_≡_, subst, sym, ap, _∙_}
+use native.Mathlib.Nat.{mod-lt}
 use native.Mathlib.Omega.{arith}
 use lib.Bits.{bitXor}
 use lib.Count.{leading-le}
@@ -9,7 +9,7 @@ use lib.ListN.{getD}
 use borrow.Author.Needs.{needs}
 use Rattle.clock.specs.declared.Frame.{Frame}
 use Rattle.hopping.specs.Hopping.{rntable}
-use Rattle.hopping.proofs.Mai.{rn-le, index-lt, nbin-leading, nbin-le, room-pos, roomOf, s-below, s-above}
+use Rattle.hopping.proofs.Mai.{rn-le, index-lt, nbin-leading, nbin-le, room-pos, room-le, roomOf, twice-once, s-below, s-above}
 use Rattle.hopping.proofs.sequence.s.Statement.{statement}
 use Rattle.hopping.proofs.sequence.s.Tie as tie
 
@@ -26,6 +26,16 @@ read c = c .wide .ensures
 
 read-le : (c : tie.After-wide) → c .wide .result ≤ 127
 read-le c = subst (λ x. x ≤ 127) (sym (read c)) (rn-le _)
+
+-- the two remainders by the room, which is at most twice n
+bound : (c : tie.After-wide) → (c .before .args .t2 + c .wide .result) % roomOf (c .before .args .n) + c .before .args .t3 % roomOf (c .before .args .n) < 2 * c .before .args .n + 2 * c .before .args .n
+bound c =
+    let s = c .before in
+    let p = room-pos (s .args .n) (s .pre .1) in
+    let l = room-le (s .args .n) (s .pre .0) (s .pre .1) in
+    let a = mod-lt (s .args .t2 + c .wide .result) p in
+    let b = mod-lt (s .args .t3) p in
+    omega arith
 
 add-index : tie.Need-add-index
 add-index c = omega (arith, index c)
@@ -51,41 +61,31 @@ shl-room c = let h = c .before .pre .1 in omega (arith, nbin-leading (c .before 
 rem-reduced : tie.Need-rem-reduced
 rem-reduced c = room-pos _ (c .before .pre .1)
 
+rem-wrapped : tie.Need-rem-wrapped
+rem-wrapped c = room-pos _ (c .before .pre .1)
+
+add-wrapped : tie.Need-add-wrapped
+add-wrapped c = let b = bound (c) in omega arith
+
+mul-wrapped : tie.Need-mul-wrapped
+mul-wrapped c = search needs
+
+wrapped-requires : tie.Need-wrapped-requires
+wrapped-requires c κs = bound (c)
+
+wrapped-requires-2 : tie.Need-wrapped-requires-2
+wrapped-requires-2 c κs =
+    let l : ((c .before .before .args .t2 + c .before .wide .result) % roomOf (c .before .before .args .n) + c .before .before .args .t3 % roomOf (c .before .before .args .n)) % (2 * c .before .before .args .n) < 2 * c .before .before .args .n = mod-lt ((c .before .before .args .t2 + c .before .wide .result) % roomOf (c .before .before .args .n) + c .before .before .args .t3 % roomOf (c .before .before .args .n)) (let p = c .before .before .pre .0 in omega arith) in
+    omega (arith, c .wrapped .ensures, l)
+
 returns : tie.Need-returns
-returns c = s-below _ _ (frame (c .before)) _ (c .before .before .pre .1) (read (c .before)) (c .if1 .taken)
-
-rem-result : tie.Need-rem-result
-rem-result c = room-pos _ (c .before .before .pre .1)
-
-add-result : tie.Need-add-result
-add-result c =
-    omega (
-      arith,
-      read-le (c .before),
-      mod-le (c .before .before .args .t2 + c .before .wide .result) (roomOf (c .before .before .args .n)),
-      mod-le (c .before .before .args .t3) (roomOf (c .before .before .args .n)),
-    )
-
-rem-result-2 : tie.Need-rem-result-2
-rem-result-2 c = search needs
+returns c = s-below _ _ (frame (c .before .before .before)) _ (c .before .before .before .before .pre .1) (read (c .before .before .before)) (c .if1 .taken)
 
 returns-2 : tie.Need-returns-2
-returns-2 c = s-above _ _ (frame (c .before)) _ (c .before .before .pre .1) (read (c .before)) (c .if1 .left)
+returns-2 c =
+    c .before .wrapped2 .ensures ∙ ap (λ (k : ℕ). k % c .before .before .before .before .args .n) (c .before .before .wrapped .ensures)
+    ∙ twice-once ((c .before .before .before .before .args .t2 + c .before .before .before .wide .result) % roomOf (c .before .before .before .before .args .n) + c .before .before .before .before .args .t3 % roomOf (c .before .before .before .before .args .n)) (c .before .before .before .before .args .n)
+    ∙ s-above _ _ (frame (c .before .before .before)) _ (c .before .before .before .before .pre .1) (read (c .before .before .before)) (c .if1 .left)
 
 pub s-spec : {M : Type 1} → statement M
-s-spec =
-    tie.close
-    (tie.spec
-    add-index
-    cast-wide
-    array-read-wide
-    wide-requires
-    add-m
-    sub-room
-    shl-room
-    rem-reduced
-    returns
-    rem-result
-    add-result
-    rem-result-2
-    returns-2)
+s-spec = tie.close (tie.spec add-index cast-wide array-read-wide wide-requires add-m sub-room shl-room rem-reduced rem-wrapped add-wrapped mul-wrapped wrapped-requires wrapped-requires-2 returns returns-2)
