@@ -8,9 +8,8 @@ use Rattle.tdma.specs.declared.cells.TdmaChanged.{TdmaChanged}
 use Rattle.tdma.specs.declared.cells.TdmaLine.{TdmaLine}
 use Rattle.tdma.specs.declared.cells.TdmaWho.{TdmaWho}
 use Rattle.tdma.specs.Numbers.{refusalNumber, refusalValue}
-use Rattle.tdma.specs.Cells.{changedNumbers, lineNumbers}
-use Rattle.cell.specs.declared.Cell.{Cell}
-use Rattle.cell.specs.Calls.{Step}
+use Rattle.tdma.specs.Cells.{answerNumbers, lineNumbers}
+use Rattle.cell.specs.State.{Cell}
 use Rattle.cell.specs.OnAir.{Slot, lineOf}
 use Rattle.cell.specs.History.{Call, Made}
 use Rattle.cell.specs.CollisionFree.{calling, made, run, begin}
@@ -29,10 +28,10 @@ on-line n fn direction = on-cell lineNumbers (λ c. lineOf c n fn direction)
 pub who-numbers : {a b : TdmaWho} → a ≡ b → (a .refusal ≡ b .refusal) × ((a .found ≡ b .found) × (a .line ≡ b .line))
 who-numbers e = (ap (λ (x : TdmaWho). x .refusal) e, (ap (λ (x : TdmaWho). x .found) e, ap (λ (x : TdmaWho). x .line) e))
 
--- ---- a list of accepted calls, each made on the cell that the one before it handed back
+-- ---- a list of accepted calls, each made on the cell that the one before it left
 
 -- a call that the definition accepts is told as accepted
-pub told : {a : TdmaChanged} {s : Step} → a ≡ changedNumbers s → s .refusal ≡ none → (a .refusal ≡ 0) × (a .line ≡ 0)
+pub told : {a : TdmaChanged} {r : Option Refused} → a ≡ answerNumbers r → r ≡ none → (a .refusal ≡ 0) × (a .line ≡ 0)
 told e h = (ap (λ (x : TdmaChanged). x .refusal) e ∙ ap refusalNumber h, ap (λ (x : TdmaChanged). x .line) e ∙ ap refusalValue h)
 
 -- as many answers without a refusal as there are calls
@@ -46,29 +45,26 @@ pub record Remaining (cell : Cell) (calls : List Call) (end : Cell) : Type 0 whe
   pub accepted : refusals cell calls ≡ nones calls
   pub ends : run (record { cell = cell; past = past }) calls .cell ≡ end
 
-module _ {a : TdmaChanged} {after : Cell} (handed : after ≡ a .cell) where
-  -- the cell that a call hands back is its definition's
-  same : (s : Step) → a ≡ changedNumbers s → s .cell ≡ after
-  same s e = sym (handed ∙ ap (λ (x : TdmaChanged). x .cell) e)
+-- after start, whose cell is the definition's
+pub started : (first : Cell) (calls : List Call) {after : Cell} → after ≡ first → refusals first calls ≡ nones calls
+    → Remaining after calls (run (begin first) calls .cell)
+started first calls e h =
+    subst (λ (c : Cell). Remaining c calls (run (begin first) calls .cell)) (sym e) (record { past = []; accepted = h; ends = refl })
 
-  pub started : (s : Step) (calls : List Call) → a ≡ changedNumbers s → refusals (s .cell) calls ≡ nones calls
-      → Remaining after calls (run (begin (s .cell)) calls .cell)
-  started s calls e h =
-      subst (λ (c : Cell). Remaining c calls (run (begin (s .cell)) calls .cell)) (same s e) (record { past = []; accepted = h; ends = refl })
-
-  pub called : {cell end : Cell} {x : Call} {xs : List Call} → Remaining cell (x ∷ xs) end → a ≡ changedNumbers (calling cell x) → Remaining after xs end
-  unfolding refusals run nones
-  called {cell} {end} {x} {xs} l e =
-      subst (λ (c : Cell). Remaining c xs end) (same (calling cell x) e)
-      (record { past = made x (calling cell x) ∷ l .past; accepted = ap tail (l .accepted); ends = l .ends })
-    where
-      tail : List (Option Refused) → List (Option Refused)
-      tail [] = []
-      tail (y ∷ ys) = ys
+-- after the next call, whose cell is the definition's
+pub called : {cell after end : Cell} {x : Call} {xs : List Call} → Remaining cell (x ∷ xs) end → after ≡ calling cell x .cell → Remaining after xs end
+unfolding refusals run nones
+called {cell} {after} {end} {x} {xs} l e =
+    subst (λ (c : Cell). Remaining c xs end) (sym e)
+    (record { past = made x (calling cell x) ∷ l .past; accepted = ap tail (l .accepted); ends = l .ends })
+  where
+    tail : List (Option Refused) → List (Option Refused)
+    tail [] = []
+    tail (y ∷ ys) = ys
 
 -- the next call is accepted
-pub next-accepted : {a : TdmaChanged} {cell end : Cell} {x : Call} {xs : List Call} → Remaining cell (x ∷ xs) end → a ≡ changedNumbers (calling cell x)
-    → (a .refusal ≡ 0) × (a .line ≡ 0)
+pub next-accepted : {a : TdmaChanged} {cell end : Cell} {x : Call} {xs : List Call} → Remaining cell (x ∷ xs) end
+    → a ≡ answerNumbers (calling cell x .refusal) → (a .refusal ≡ 0) × (a .line ≡ 0)
 unfolding refusals nones
 next-accepted l e = told e (ap head (l .accepted))
   where

@@ -11,7 +11,7 @@ use Rattle.frame_map.specs.declared.Kind.the-variants.{Tch, Sacch, Sdcch, Ccch,
 use Rattle.frame_map.specs.Channels.{at}
 use Rattle.frame_map.specs.Map.{mapOf}
 use Rattle.paging.specs.Paging.{pagingOf}
-use Rattle.cell.specs.declared.Cell.{Cell}
+use Rattle.cell.specs.State.{Cell}
 use Rattle.cell.specs.Calls.{startOf}
 use Rattle.cell.specs.OnAir.{Slot, lineOf}
 use Rattle.cell.specs.Paging.{pageOf}

@@ -1,5 +1,4 @@
 // What the answers have to be. The checks run: every number of an answer is compared. Each `requires` makes its check a proof obligation.
-use cell::Cell;
 use tdma::TdmaHop;
 use tdma::TdmaJoin;
 use tdma::TdmaMap;
@@ -89,14 +88,11 @@ pub(crate) fn expect_idle(a: TdmaMap)
     expect_map(a, 0, 0, 0, 0, 0);
 }
 
-// The cell after an accepted call.
-pub(crate) fn expect_accepted(a: TdmaChanged) -> Cell
+pub(crate) fn expect_accepted(a: TdmaChanged)
     requires { ⌜ (a .refusal ≡ 0) × (a .line ≡ 0) ⌝ }
-    ensures { λ r. ⌜ r ≡ a .cell ⌝ }
 {
     equal(a.refusal, 0);
     equal(a.line, 0);
-    a.cell
 }
 
 fn expect_line(a: TdmaLine, b: TdmaLine)

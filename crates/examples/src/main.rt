@@ -4,7 +4,7 @@ mod ask;
 mod expected;
 mod print;
 
-use cell::Cell;
+use cell::words::WORDS;
 use expected::CCCH;
 use expected::RACH;
 use expected::SACCH;
@@ -22,6 +22,7 @@ use expected::expect_split;
 use expected::expect_two_blocks;
 use expected::expect_who;
 ghost use mathlib.Core.Path.{_≡_};
+ghost use Rattle.cell.specs.Words.{cellOf};
 ghost use Rattle.examples.specs.DrillSheet as sheet;
 
 fn clock_rows() {
@@ -52,84 +53,86 @@ fn map_rows() {
 }
 
 // The cell for the rows on hopping, traffic, SDCCH and paging: AG 1, P 5, and one common line, a 4.
-fn traffic() -> Cell
-    ensures { λ r. ⌜ r ≡ sheet.traffic ⌝ }
+fn traffic(cell: &mut [u32; WORDS])
+    ensures { λ _. ⌜ cellOf (now (cell .exit)) ≡ sheet.traffic ⌝ }
 {
-    let c = expect_accepted(ask::start(10, 0, 1, 5));
-    let c = expect_accepted(ask::open(c, 0, 0, 1, 0, 0, 4, 0));
-    let c = expect_accepted(ask::open(c, 1, 1, 7, 0, 2, 1, 3));
-    let c = expect_accepted(ask::open(c, 2, 1, 8, 0, 0, 2, 3));
-    let c = expect_accepted(ask::open(c, 3, 2, 7, 1, 0, 1, 3));
-    let c = expect_accepted(ask::open(c, 4, 2, 7, 1, 1, 1, 3));
-    let c = expect_accepted(ask::open(c, 5, 3, 15, 1, 0, 7, 3));
-    expect_accepted(ask::seize(c, 5, 5, 77))
+    expect_accepted(ask::start(cell, 10, 0, 1, 5));
+    expect_accepted(ask::open(cell, 0, 0, 1, 0, 0, 4, 0));
+    expect_accepted(ask::open(cell, 1, 1, 7, 0, 2, 1, 3));
+    expect_accepted(ask::open(cell, 2, 1, 8, 0, 0, 2, 3));
+    expect_accepted(ask::open(cell, 3, 2, 7, 1, 0, 1, 3));
+    expect_accepted(ask::open(cell, 4, 2, 7, 1, 1, 1, 3));
+    expect_accepted(ask::open(cell, 5, 3, 15, 1, 0, 7, 3));
+    expect_accepted(ask::seize(cell, 5, 5, 77));
 }
 
 // The rows on hopping.
-fn arfcn_rows(c: Cell)
-    requires { ⌜ c ≡ sheet.traffic ⌝ }
+fn arfcn_rows(cell: &[u32; WORDS])
+    requires { ⌜ cellOf (now cell) ≡ sheet.traffic ⌝ }
 {
-    expect_two_blocks(ask::line(c, 1, 5, 0), 20, TCH, 0, 0, 1, 1, 0, 5);
-    expect_two_blocks(ask::line(c, 3, 0, 0), 30, TCH, 0, 0, 0, 0, 5, 4);
-    expect_two_blocks(ask::line(c, 3, 2, 0), 30, TCH, 0, 0, 0, 2, 5, 6);
-    expect_two_blocks(ask::line(c, 3, 4, 0), 10, TCH, 0, 0, 1, 0, 0, 4);
-    expect_two_blocks(ask::line(c, 4, 0, 0), 10, TCH, 0, 0, 0, 0, 5, 4);
-    expect_one_block(ask::line(c, 5, 3, 0), 30, SDCCH, 0, 0, 0, 3);
+    expect_two_blocks(ask::line(cell, 1, 5, 0), 20, TCH, 0, 0, 1, 1, 0, 5);
+    expect_two_blocks(ask::line(cell, 3, 0, 0), 30, TCH, 0, 0, 0, 0, 5, 4);
+    expect_two_blocks(ask::line(cell, 3, 2, 0), 30, TCH, 0, 0, 0, 2, 5, 6);
+    expect_two_blocks(ask::line(cell, 3, 4, 0), 10, TCH, 0, 0, 1, 0, 0, 4);
+    expect_two_blocks(ask::line(cell, 4, 0, 0), 10, TCH, 0, 0, 0, 0, 5, 4);
+    expect_one_block(ask::line(cell, 5, 3, 0), 30, SDCCH, 0, 0, 0, 3);
 }
 
 // The rows on traffic and SDCCH.
-fn traffic_rows(c: Cell)
-    requires { ⌜ c ≡ sheet.traffic ⌝ }
+fn traffic_rows(cell: &[u32; WORDS])
+    requires { ⌜ cellOf (now cell) ≡ sheet.traffic ⌝ }
 {
-    expect_one_block(ask::line(c, 1, 25, 0), 10, SACCH, 0, 0, 0, 0);
-    expect_idle_line(ask::line(c, 1, 12, 0), 30);
-    expect_one_block(ask::line(c, 2, 12, 0), 40, SACCH, 0, 0, 0, 0);
-    expect_one_block(ask::line(c, 5, 102, 1), 30, SACCH, 5, 77, 0, 0);
+    expect_one_block(ask::line(cell, 1, 25, 0), 10, SACCH, 0, 0, 0, 0);
+    expect_idle_line(ask::line(cell, 1, 12, 0), 30);
+    expect_one_block(ask::line(cell, 2, 12, 0), 40, SACCH, 0, 0, 0, 0);
+    expect_one_block(ask::line(cell, 5, 102, 1), 30, SACCH, 5, 77, 0, 0);
 }
 
 // The row on paging, and the paged block on the air.
-fn page_rows(c: Cell)
-    requires { ⌜ c ≡ sheet.traffic ⌝ }
+fn page_rows(cell: &[u32; WORDS])
+    requires { ⌜ cellOf (now cell) ≡ sheet.traffic ⌝ }
 {
-    expect_page(ask::page(c, 0), 0, 4, 26);
-    expect_one_block(ask::line(c, 0, 26, 0), 10, CCCH, 0, 0, 4, 0);
+    expect_page(ask::page(cell, 0), 0, 4, 26);
+    expect_one_block(ask::line(cell, 0, 26, 0), 10, CCCH, 0, 0, 4, 0);
 }
 
 // Not of the sheet: who sends what the first row of `arfcn_rows` has, and an ARFCN that nobody has then.
-fn who_rows(c: Cell)
-    requires { ⌜ c ≡ sheet.traffic ⌝ }
+fn who_rows(cell: &[u32; WORDS])
+    requires { ⌜ cellOf (now cell) ≡ sheet.traffic ⌝ }
 {
-    let answer = expect_who(ask::who(c, 1, 20, 5, 0), 1, 1);
+    let answer = expect_who(ask::who(cell, 1, 20, 5, 0), 1, 1);
     expect_two_blocks(answer, 20, TCH, 0, 0, 1, 1, 0, 5);
-    let answer = expect_who(ask::who(c, 1, 10, 5, 0), 0, 0);
+    let answer = expect_who(ask::who(cell, 1, 10, 5, 0), 0, 0);
     expect_idle_line(answer, 0);
 }
 
 // The cell for the rows on combination 5.
-fn combined() -> Cell
-    ensures { λ r. ⌜ r ≡ sheet.combined ⌝ }
+fn combined(cell: &mut [u32; WORDS])
+    ensures { λ _. ⌜ cellOf (now (cell .exit)) ≡ sheet.combined ⌝ }
 {
-    let c = expect_accepted(ask::start(10, 0, 1, 5));
-    let c = expect_accepted(ask::open(c, 0, 0, 1, 0, 0, 5, 0));
-    expect_accepted(ask::seize(c, 0, 3, 78))
+    expect_accepted(ask::start(cell, 10, 0, 1, 5));
+    expect_accepted(ask::open(cell, 0, 0, 1, 0, 0, 5, 0));
+    expect_accepted(ask::seize(cell, 0, 3, 78));
 }
 
-fn combined_rows(c: Cell)
-    requires { ⌜ c ≡ sheet.combined ⌝ }
+fn combined_rows(cell: &[u32; WORDS])
+    requires { ⌜ cellOf (now cell) ≡ sheet.combined ⌝ }
 {
-    expect_one_block(ask::line(c, 0, 13, 1), 10, SACCH, 3, 78, 0, 3);
-    expect_one_block(ask::line(c, 0, 14, 1), 10, RACH, 0, 0, 2, 0);
-    expect_one_block(ask::line(c, 0, 64, 1), 10, SACCH, 1, 0, 0, 3);
+    expect_one_block(ask::line(cell, 0, 13, 1), 10, SACCH, 3, 78, 0, 3);
+    expect_one_block(ask::line(cell, 0, 14, 1), 10, RACH, 0, 0, 2, 0);
+    expect_one_block(ask::line(cell, 0, 64, 1), 10, SACCH, 1, 0, 0, 3);
 }
 
 fn main() {
     clock_rows();
     hop_rows();
     map_rows();
-    let c = traffic();
-    arfcn_rows(c);
-    traffic_rows(c);
-    page_rows(c);
-    who_rows(c);
-    combined_rows(combined());
+    let mut cell = [0u32; WORDS];
+    traffic(&mut cell);
+    arfcn_rows(&cell);
+    traffic_rows(&cell);
+    page_rows(&cell);
+    who_rows(&cell);
+    combined(&mut cell);
+    combined_rows(&cell);
 }

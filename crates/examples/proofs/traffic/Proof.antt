@@ -1,7 +1,7 @@
--- `traffic` meets its contract: each call is accepted, and the last hands back the definition's cell. Assumes nothing.
+-- `traffic` meets its contract: each call is accepted, and the last leaves the definition's cell. Assumes nothing.
 use lib.ListN.{drop}
-use Rattle.cell.specs.Calls.{startOf}
-use Rattle.examples.specs.DrillSheet.{ca, calls, traffic}
+use Rattle.cell.specs.Words.{cellOf}
+use Rattle.examples.specs.DrillSheet.{empty, calls, traffic}
 use Rattle.examples.proofs.Drill.{drill-sheet}
 use Rattle.examples.proofs.Checks.{told, nones, Remaining, started, called, next-accepted, ended}
 use Rattle.examples.proofs.traffic.Statement.{statement}
@@ -11,77 +11,77 @@ start-requires : tie.Need-start-requires
 start-requires c κs = tt
 
 expect-accepted-requires : tie.Need-expect-accepted-requires
-expect-accepted-requires c κs = told (c .start .ensures) (drill-sheet .accepted-start)
+expect-accepted-requires c κs = told (c .start .ensures .0) (drill-sheet .accepted-start)
 
-remaining : (c : tie.After-expect-accepted) → Remaining (c .expect-accepted .result) calls traffic
+remaining : (c : tie.After-start) → Remaining (cellOf (c .start .last .0)) calls traffic
 unfolding nones
-remaining c = started (c .expect-accepted .ensures) (startOf ca 10 0 1 5) calls (c .before .start .ensures) (drill-sheet .accepted-calls)
+remaining c = started empty calls (c .start .ensures .1) (drill-sheet .accepted-calls)
 
 open-requires : tie.Need-open-requires
 open-requires c κs = tt
 
 expect-accepted-requires-2 : tie.Need-expect-accepted-requires-2
-expect-accepted-requires-2 c κs = next-accepted (remaining (c .before)) (c .open .ensures)
+expect-accepted-requires-2 c κs = next-accepted (remaining (c .before .before .before)) (c .open .ensures .0)
 
-remaining-2 : (c : tie.After-expect-accepted2) → Remaining (c .expect-accepted2 .result) (drop 1 calls) traffic
-remaining-2 c = called (c .expect-accepted2 .ensures) (remaining (c .before .before)) (c .before .open .ensures)
+remaining-2 : (c : tie.After-open) → Remaining (cellOf (c .open .last .0)) (drop 1 calls) traffic
+remaining-2 c = called (remaining (c .before .before .before)) (c .open .ensures .1)
 
 open-requires-2 : tie.Need-open-requires-2
 open-requires-2 c κs = tt
 
 expect-accepted-requires-3 : tie.Need-expect-accepted-requires-3
-expect-accepted-requires-3 c κs = next-accepted (remaining-2 (c .before)) (c .open2 .ensures)
+expect-accepted-requires-3 c κs = next-accepted (remaining-2 (c .before .before .before)) (c .open2 .ensures .0)
 
-remaining-3 : (c : tie.After-expect-accepted3) → Remaining (c .expect-accepted3 .result) (drop 2 calls) traffic
-remaining-3 c = called (c .expect-accepted3 .ensures) (remaining-2 (c .before .before)) (c .before .open2 .ensures)
+remaining-3 : (c : tie.After-open2) → Remaining (cellOf (c .open2 .last .0)) (drop 2 calls) traffic
+remaining-3 c = called (remaining-2 (c .before .before .before)) (c .open2 .ensures .1)
 
 open-requires-3 : tie.Need-open-requires-3
 open-requires-3 c κs = tt
 
 expect-accepted-requires-4 : tie.Need-expect-accepted-requires-4
-expect-accepted-requires-4 c κs = next-accepted (remaining-3 (c .before)) (c .open3 .ensures)
+expect-accepted-requires-4 c κs = next-accepted (remaining-3 (c .before .before .before)) (c .open3 .ensures .0)
 
-remaining-4 : (c : tie.After-expect-accepted4) → Remaining (c .expect-accepted4 .result) (drop 3 calls) traffic
-remaining-4 c = called (c .expect-accepted4 .ensures) (remaining-3 (c .before .before)) (c .before .open3 .ensures)
+remaining-4 : (c : tie.After-open3) → Remaining (cellOf (c .open3 .last .0)) (drop 3 calls) traffic
+remaining-4 c = called (remaining-3 (c .before .before .before)) (c .open3 .ensures .1)
 
 open-requires-4 : tie.Need-open-requires-4
 open-requires-4 c κs = tt
 
 expect-accepted-requires-5 : tie.Need-expect-accepted-requires-5
-expect-accepted-requires-5 c κs = next-accepted (remaining-4 (c .before)) (c .open4 .ensures)
+expect-accepted-requires-5 c κs = next-accepted (remaining-4 (c .before .before .before)) (c .open4 .ensures .0)
 
-remaining-5 : (c : tie.After-expect-accepted5) → Remaining (c .expect-accepted5 .result) (drop 4 calls) traffic
-remaining-5 c = called (c .expect-accepted5 .ensures) (remaining-4 (c .before .before)) (c .before .open4 .ensures)
+remaining-5 : (c : tie.After-open4) → Remaining (cellOf (c .open4 .last .0)) (drop 4 calls) traffic
+remaining-5 c = called (remaining-4 (c .before .before .before)) (c .open4 .ensures .1)
 
 open-requires-5 : tie.Need-open-requires-5
 open-requires-5 c κs = tt
 
 expect-accepted-requires-6 : tie.Need-expect-accepted-requires-6
-expect-accepted-requires-6 c κs = next-accepted (remaining-5 (c .before)) (c .open5 .ensures)
+expect-accepted-requires-6 c κs = next-accepted (remaining-5 (c .before .before .before)) (c .open5 .ensures .0)
 
-remaining-6 : (c : tie.After-expect-accepted6) → Remaining (c .expect-accepted6 .result) (drop 5 calls) traffic
-remaining-6 c = called (c .expect-accepted6 .ensures) (remaining-5 (c .before .before)) (c .before .open5 .ensures)
+remaining-6 : (c : tie.After-open5) → Remaining (cellOf (c .open5 .last .0)) (drop 5 calls) traffic
+remaining-6 c = called (remaining-5 (c .before .before .before)) (c .open5 .ensures .1)
 
 open-requires-6 : tie.Need-open-requires-6
 open-requires-6 c κs = tt
 
 expect-accepted-requires-7 : tie.Need-expect-accepted-requires-7
-expect-accepted-requires-7 c κs = next-accepted (remaining-6 (c .before)) (c .open6 .ensures)
+expect-accepted-requires-7 c κs = next-accepted (remaining-6 (c .before .before .before)) (c .open6 .ensures .0)
 
-remaining-7 : (c : tie.After-expect-accepted7) → Remaining (c .expect-accepted7 .result) (drop 6 calls) traffic
-remaining-7 c = called (c .expect-accepted7 .ensures) (remaining-6 (c .before .before)) (c .before .open6 .ensures)
+remaining-7 : (c : tie.After-open6) → Remaining (cellOf (c .open6 .last .0)) (drop 6 calls) traffic
+remaining-7 c = called (remaining-6 (c .before .before .before)) (c .open6 .ensures .1)
 
 seize-requires : tie.Need-seize-requires
 seize-requires c κs = tt
 
 expect-accepted-requires-8 : tie.Need-expect-accepted-requires-8
-expect-accepted-requires-8 c κs = next-accepted (remaining-7 (c .before)) (c .seize .ensures)
+expect-accepted-requires-8 c κs = next-accepted (remaining-7 (c .before .before .before)) (c .seize .ensures .0)
 
-remaining-8 : (c : tie.After-expect-accepted8) → Remaining (c .expect-accepted8 .result) (drop 7 calls) traffic
-remaining-8 c = called (c .expect-accepted8 .ensures) (remaining-7 (c .before .before)) (c .before .seize .ensures)
+remaining-8 : (c : tie.After-seize) → Remaining (cellOf (c .seize .last .0)) (drop 7 calls) traffic
+remaining-8 c = called (remaining-7 (c .before .before .before)) (c .seize .ensures .1)
 
 returns : tie.Need-returns
-returns c = ended (remaining-8 c)
+returns c = ended (remaining-8 (c .before))
 
 pub traffic-spec : {M : Type 1} → statement M
 traffic-spec =
