@@ -8,7 +8,7 @@ use mathlib.Core.Option.{Option, none, some}
 use native.Mathlib.Omega.{arith}
 use lib.Dec.{eqb}
 use borrow.Author.Tests.{eqb-true, eqb-false, eq-eqb, ltb-false, le-ltb, lt-leb, leb-false, not-false}
-use Rattle.answers.specs.Outcome.{accepted}
+use Rattle.answers.specs.Outcome.{Outcome, refused, accepted}
 use Rattle.answers.specs.Search.{least}
 use Rattle.answers.proofs.Decide.{passes, accepts, NoCause, accepted-has-none}
 use Rattle.answers.proofs.Search.{First, any-at, first-of, first-or-none, least-first, any-none}
@@ -18,7 +18,7 @@ use Rattle.hopping.specs.Hopping.{linePosition, lineArfcn}
 use Rattle.hopping.proofs.Apart.{line-within, entry-arfcn}
 use Rattle.cell.specs.State.{Cell, LineState, Values, lineCount, isOpen, lineAt, allocation}
 use Rattle.cell.specs.OnAir.{Slot, arfcnIn, slotOf, lineCauses, lineOf}
-use Rattle.cell.specs.Who.{lineIsOn, Match, matchAt, whoCauses, matchOf, whoOf}
+use Rattle.cell.specs.Who.{lineIsOn, Match, matchAt, whoCauses, matchOf, whoOf, lineFound}
 use Rattle.cell.specs.History.{Made, openedWith, cellFrom}
 use Rattle.cell.specs.Reached.{NoneShown, WhoAgrees, WhoAndLine}
 use Rattle.cell.proofs.Begun.{Begun}
@@ -83,6 +83,43 @@ module _ (c : Cell) (tn arfcn fn : ℕ) where
   none-found direction f =
       ap (λ (b : Bool). cond b (some (matchAt c (least test lineCount lineCount) fn direction)) none) (any-none test lineCount f)
 
+  -- what who names, line shows
+  pub who-shown : (direction : ℕ) (f : Match) → whoOf c tn arfcn fn direction ≡ accepted (some f)
+      → (lineOf c (f .line) fn direction ≡ accepted (f .slot)) × (lineAt c (f .line) .tn ≡ tn) × (f .slot .arfcn ≡ arfcn)
+  unfolding whoOf slotOf
+  who-shown direction f e = ⊎-elim somebody (λ g. absurd (nothing (sym (none-found direction g) ∙ given .0))) (first-or-none test lineCount)
+    where
+      given : (matchOf c tn arfcn fn direction ≡ some f) × NoCause (whoCauses tn arfcn fn direction)
+      given = accepted-has-none _ (whoCauses tn arfcn fn direction) (some f) e
+
+      nothing : _≡_ {A = Option Match} none (some f) → ⊥
+      nothing z = let q : _≡_ {A = ℕ} 0 1 = cc in omega arith
+
+      Agrees : Match → Type 0
+      Agrees x = (lineOf c (x .line) fn direction ≡ accepted (x .slot)) × (lineAt c (x .line) .tn ≡ tn) × (x .slot .arfcn ≡ arfcn)
+
+      somebody : First test lineCount → Agrees f
+      somebody w =
+          subst Agrees (let z : some (matchAt c (w .place) fn direction) ≡ some f = sym (found direction w) ∙ given .0 in let q : matchAt c (w .place) fn direction ≡ f = cc in q)
+          (shows-line c fn direction (w .place) (w .below) (leb-false _ _ (given .1 .0 .1 .1 .0)) (ltb-false _ _ (given .1 .0 .1 .1 .1 .0)) (on-open (w .place) (w .passes)), on-tn (w .place) (w .passes), on-arfcn (w .place) (w .passes))
+
+  -- the answer behind the number that the code gives
+  pub record Named (direction n : ℕ) : Type 0 where
+    pub named : Match
+    pub answer : whoOf c tn arfcn fn direction ≡ accepted (some named)
+    pub number : named .line ≡ n
+    pub line-answer : lineOf c n fn direction ≡ accepted (named .slot)
+
+  pub named-line : (direction n : ℕ) → accepted (some n) ≡ lineFound (whoOf c tn arfcn fn direction) → Named direction n
+  named-line direction n e = go (whoOf c tn arfcn fn direction) refl e
+    where
+      go : (w : Outcome (Option Match)) → whoOf c tn arfcn fn direction ≡ w → accepted (some n) ≡ lineFound w → Named direction n
+      go (refused r) q z = absurd (let y : _≡_ {A = ℕ} 0 1 = cc in omega arith)
+      go (accepted none) q z = absurd (let y : _≡_ {A = ℕ} 0 1 = cc in omega arith)
+      go (accepted (some f)) q z =
+          let y : n ≡ f .line = cc in
+          record { named = f; answer = q; number = sym y; line-answer = ap (λ (k : ℕ). lineOf c k fn direction) y ∙ who-shown direction f q .0 }
+
 -- ---- of a cell that the calls can hand back
 
 module _ (first : Cell) (begun : Begun first) (past : List Made) (sound : Sound first past) where
@@ -136,25 +173,6 @@ module _ (first : Cell) (begun : Begun first) (past : List Made) (sound : Sound 
       let e = entry-arfcn (allocation first) (begun .is-allocation) (linePosition (w .values .mask) (w .values .hsn) (w .values .maio) fn) (subst (λ (k : ℕ). linePosition (w .values .mask) (w .values .hsn) (w .values .maio) fn < k) (sym (begun .known-length)) p) in
       ((le-ltb 7 (lineAt cell n .tn) (let q = w .in-timeslot in omega (arith, t, q)), (le-ltb 1023 (arfcnIn cell (lineAt cell n) fn) (let q = w .on-arfcn in omega (arith, e, q)), (lt-leb _ _ hf, (le-ltb 1 direction hd, tt)))), tt)
 
-  shown : (tn arfcn fn direction : ℕ) (f : Match) → whoOf cell tn arfcn fn direction ≡ accepted (some f)
-      → (lineOf cell (f .line) fn direction ≡ accepted (f .slot)) × (lineAt cell (f .line) .tn ≡ tn) × (f .slot .arfcn ≡ arfcn)
-  unfolding whoOf slotOf
-  shown tn arfcn fn direction f e = ⊎-elim somebody (λ g. absurd (nothing (sym (none-found cell tn arfcn fn direction g) ∙ given .0))) (first-or-none (lineIsOn cell tn arfcn fn) lineCount)
-    where
-      given : (matchOf cell tn arfcn fn direction ≡ some f) × NoCause (whoCauses tn arfcn fn direction)
-      given = accepted-has-none _ (whoCauses tn arfcn fn direction) (some f) e
-
-      nothing : _≡_ {A = Option Match} none (some f) → ⊥
-      nothing z = let q : _≡_ {A = ℕ} 0 1 = cc in omega arith
-
-      Agrees : Match → Type 0
-      Agrees x = (lineOf cell (x .line) fn direction ≡ accepted (x .slot)) × (lineAt cell (x .line) .tn ≡ tn) × (x .slot .arfcn ≡ arfcn)
-
-      somebody : First (lineIsOn cell tn arfcn fn) lineCount → Agrees f
-      somebody w =
-          subst Agrees (let z : some (matchAt cell (w .place) fn direction) ≡ some f = sym (found cell tn arfcn fn direction w) ∙ given .0 in let q : matchAt cell (w .place) fn direction ≡ f = cc in q)
-          (shows-line cell fn direction (w .place) (w .below) (leb-false _ _ (given .1 .0 .1 .1 .0)) (ltb-false _ _ (given .1 .0 .1 .1 .1 .0)) (on-open cell tn arfcn fn (w .place) (w .passes)), on-tn cell tn arfcn fn (w .place) (w .passes), on-arfcn cell tn arfcn fn (w .place) (w .passes))
-
   -- an open line is on in its own timeslot and on its own ARFCN
   is-on : (n fn : ℕ) → isOpen (lineAt cell n) ≡ true → lineIsOn cell (lineAt cell n .tn) (arfcnIn cell (lineAt cell n) fn) fn n ≡ true
   is-on n fn o = and-both o (and-both (eq-eqb (lineAt cell n .tn) (lineAt cell n .tn) refl) (eq-eqb (arfcnIn cell (lineAt cell n) fn) (arfcnIn cell (lineAt cell n) fn) refl))
@@ -201,7 +219,7 @@ module _ (first : Cell) (begun : Begun first) (past : List Made) (sound : Sound 
       (first-or-none (lineIsOn cell tn arfcn fn) lineCount)
 
   who-agrees : WhoAgrees cell
-  who-agrees = record { at-most-one = one-line; shown = shown; named = named; nobody = nobody; only-nobody = only-nobody }
+  who-agrees = record { at-most-one = one-line; shown = λ tn arfcn fn. who-shown cell tn arfcn fn; named = named; nobody = nobody; only-nobody = only-nobody }
 
 -- ---- the claim
 

@@ -46,7 +46,7 @@ ghost use Rattle.cell.specs.Calls.{openRange, refusedCell, startOf, open
 ghost use Rattle.cell.specs.Helpers.{passOf};
 ghost use Rattle.cell.specs.OnAir.{lineOf, aired};
 ghost use Rattle.cell.specs.Paging.{pageOf};
-ghost use Rattle.cell.specs.Who.{whoOf, sought};
+ghost use Rattle.cell.specs.Who.{whoOf, lineFound, sought};
 ghost use Rattle.cell.specs.Words.{cellOf};
 ghost use Rattle.paging.specs.Paging.{paged};
 
@@ -62,14 +62,9 @@ pub enum Aired {
     Refused(Refusal),
 }
 
-// A line by its number, and what it sends.
-pub struct Found {
-    pub line: u32,
-    pub air: OnAir,
-}
-
+// A line by its number.
 pub enum Sought {
-    Line(Found),
+    Line(u32),
     Nobody,
     Refused(Refusal),
 }
@@ -222,9 +217,10 @@ pub fn line(cell: &[u32; WORDS], line: u32, number: u32, direction: u32) -> Aire
     Aired::Line(on_air(cell, n, number, direction))
 }
 
-// Who is on the air: the open line of timeslot `tn` that has this ARFCN in frame `number`, and what it sends, downlink (0) or uplink (1).
+// Who is on the air: the open line of timeslot `tn` that has this ARFCN in frame `number`. What it sends there, downlink (0) or uplink (1), is what
+// `line` answers for it.
 pub fn who(cell: &[u32; WORDS], tn: u32, arfcn: u32, number: u32, direction: u32) -> Sought
-    ensures { λ r. ⌜ sought r ≡ whoOf (cellOf (now (cell .entry))) tn arfcn number direction ⌝ }
+    ensures { λ r. ⌜ sought r ≡ lineFound (whoOf (cellOf (now (cell .entry))) tn arfcn number direction) ⌝ }
 {
     if (tn > 7) | ((arfcn > 1023) | ((number >= Frame::HYPERFRAME) | (direction > 1))) {
         return Sought::Refused(Refusal::OutOfRange);
@@ -233,10 +229,7 @@ pub fn who(cell: &[u32; WORDS], tn: u32, arfcn: u32, number: u32, direction: u32
     if n >= 64 {
         return Sought::Nobody;
     }
-    Sought::Line(Found {
-        line: n,
-        air: on_air(cell, n as usize, number, direction),
-    })
+    Sought::Line(n)
 }
 
 // The timeslot and CCCH block in which a phone with this IMSI is paged, one digit to a byte, and the first frame at or after `number` in which the

@@ -3,7 +3,6 @@ use crate::refusal_number;
 use crate::refusal_value;
 use answers::Answer;
 use cell::Aired;
-use cell::Found;
 use cell::OnAir;
 use cell::Sought;
 use cell::words::WORDS;
@@ -23,7 +22,7 @@ ghost use Rattle.cell.specs.OnAir.{lineOf, slotIn};
 ghost use Rattle.cell.specs.Paging.{pageOf};
 ghost use Rattle.cell.specs.Who.{whoOf};
 ghost use Rattle.cell.specs.Words.{cellOf};
-ghost use Rattle.tdma.specs.Cells.{answerNumbers, Left, lineFields, lineNumbers, matchNumbers, nobody, whoNumbers, pageNumbers};
+ghost use Rattle.tdma.specs.Cells.{answerNumbers, Left, lineFields, lineNumbers, nobody, whoNumbers, pageNumbers};
 
 // The refusal, and for 9 the line in the way.
 #[repr(C)]
@@ -234,18 +233,6 @@ pub extern "C" fn tdma_line(cell: &[u32; WORDS], line: u32, frame: u32, directio
     }
 }
 
-fn found_numbers(f: Found) -> TdmaWho
-    ensures { λ r. ⌜ r ≡ matchNumbers (record { line = f .line; slot = slotIn (f .air) }) ⌝ }
-{
-    let air = f.air;
-    TdmaWho {
-        refusal: 0,
-        found: 1,
-        line: f.line,
-        answer: slot_numbers(air),
-    }
-}
-
 // Nobody, or a refusal.
 fn no_line(refusal: u32) -> TdmaWho
     ensures { λ r. ⌜ r ≡ nobody refusal ⌝ }
@@ -270,7 +257,12 @@ pub extern "C" fn tdma_who(
     ensures { λ r. ⌜ r ≡ whoNumbers (whoOf (cellOf (now (cell .entry))) tn arfcn frame direction) ⌝ }
 {
     match cell::who(cell, tn, arfcn, frame, direction) {
-        Sought::Line(f) => found_numbers(f),
+        Sought::Line(line) => TdmaWho {
+            refusal: 0,
+            found: 1,
+            line,
+            answer: tdma_line(cell, line, frame, direction),
+        },
         Sought::Nobody => no_line(0),
         Sought::Refused(e) => no_line(refusal_number(e)),
     }

@@ -1,4 +1,4 @@
--- `who` meets its contract: the first line that is on is the definition's, and its answer is `on_air`'s. Assumes nothing.
+-- `who` meets its contract: the first line that is on is the definition's. Assumes nothing.
 use Prim.Native.Nat.{ℕ, _≤_, _<_}
 use mathlib.Core.Path.{_≡_, sym, ap, _∙_}
 use mathlib.Core.Bool.{Bool, cond}
@@ -12,8 +12,7 @@ use Rattle.answers.proofs.Decide.{refused-by, accepted-by}
 use Rattle.answers.proofs.Search.{any-least}
 use Rattle.cell.specs.State.{Cell}
 use Rattle.cell.specs.Words.{cellOf}
-use Rattle.cell.specs.OnAir.{Slot}
-use Rattle.cell.specs.Who.{lineIsOn, matchAt, whoCauses, matchOf, whoOf}
+use Rattle.cell.specs.Who.{lineIsOn, matchAt, whoCauses, matchOf, whoOf, lineFound}
 use Rattle.cell.proofs.who.Statement.{statement}
 use Rattle.cell.proofs.who.Tie as tie
 
@@ -35,7 +34,7 @@ returns : tie.Need-returns
 unfolding whoOf
 returns c =
     let x = c .before .args in
-    refused-by _ 0 (whoCauses (x .tn) (x .arfcn) (x .number) (x .direction)) (c .if1 .taken)
+    ap lineFound (refused-by _ 0 (whoCauses (x .tn) (x .arfcn) (x .number) (x .direction)) (c .if1 .taken))
 
 first-on-requires : tie.Need-first-on-requires
 first-on-requires c κs = search needs
@@ -44,23 +43,16 @@ returns-2 : tie.Need-returns-2
 unfolding whoOf
 returns-2 c =
     let x = c .before .before .before .args in
-    ap accepted (nobody (cellOf (x .cell .now)) (x .tn) (x .arfcn) (x .number) (x .direction) _ (c .before .first-on .ensures) (c .if2 .taken))
-    ∙ accepted-by _ (whoCauses (x .tn) (x .arfcn) (x .number) (x .direction)) (c .before .before .if1 .left, tt)
-
-cast-on-air : tie.Need-cast-on-air
-cast-on-air c = search needs
-
-on-air-requires : tie.Need-on-air-requires
-on-air-requires c κs = search needs
+    ap lineFound
+    (ap accepted (nobody (cellOf (x .cell .now)) (x .tn) (x .arfcn) (x .number) (x .direction) _ (c .before .first-on .ensures) (c .if2 .taken)) ∙ accepted-by _ (whoCauses (x .tn) (x .arfcn) (x .number) (x .direction)) (c .before .before .if1 .left, tt))
 
 returns-3 : tie.Need-returns-3
 unfolding whoOf
 returns-3 c =
-    let x = c .before .before .before .before .args in
-    let n = c .before .before .first-on .result in
-    ap (λ (s : Slot). accepted (some (record { line = n; slot = s }))) (c .on-air .ensures)
-    ∙ (ap accepted (somebody (cellOf (x .cell .now)) (x .tn) (x .arfcn) (x .number) (x .direction) n (c .before .before .first-on .ensures) (c .before .if2 .left))
-    ∙ accepted-by _ (whoCauses (x .tn) (x .arfcn) (x .number) (x .direction)) (c .before .before .before .if1 .left, tt))
+    let x = c .before .before .before .args in
+    let n = c .before .first-on .result in
+    ap lineFound
+    (ap accepted (somebody (cellOf (x .cell .now)) (x .tn) (x .arfcn) (x .number) (x .direction) n (c .before .first-on .ensures) (c .if2 .left)) ∙ accepted-by _ (whoCauses (x .tn) (x .arfcn) (x .number) (x .direction)) (c .before .before .if1 .left, tt))
 
 pub who-spec : {M : Type 1} → statement M
-who-spec = tie.close (tie.spec returns first-on-requires returns-2 cast-on-air on-air-requires returns-3)
+who-spec = tie.close (tie.spec returns first-on-requires returns-2 returns-3)

@@ -1,7 +1,9 @@
--- `tdma_who` meets its contract: the answer of `cell::who`, in numbers. Assumes nothing.
+-- `cells::tdma_who` meets its contract: the line of `cell::who`, and the answer of `tdma_line` for it. Assumes nothing.
 use mathlib.Core.Path.{sym, ap, _∙_}
-use Rattle.cell.specs.Who.{sought}
-use Rattle.tdma.specs.Cells.{nobody, whoNumbers}
+use Rattle.answers.specs.Refusals.{refusalOf}
+use Rattle.cell.specs.Words.{cellOf}
+use Rattle.cell.specs.Who.{whoOf, sought}
+use Rattle.tdma.proofs.Sought.{line-found, nobody-found, who-refused}
 use borrow.Author.Needs.{needs}
 use Rattle.tdma.proofs.cells.tdma_who.Statement.{statement}
 use Rattle.tdma.proofs.cells.tdma_who.Tie as tie
@@ -9,11 +11,11 @@ use Rattle.tdma.proofs.cells.tdma_who.Tie as tie
 who-requires : tie.Need-who-requires
 who-requires c κs = search needs
 
-enum-known-f : tie.Need-enum-known-f
-enum-known-f c = search needs
+enum-known-line : tie.Need-enum-known-line
+enum-known-line c = search needs
 
-found-numbers-requires : tie.Need-found-numbers-requires
-found-numbers-requires c κs = search needs
+tdma-line-requires : tie.Need-tdma-line-requires
+tdma-line-requires c κs = search needs
 
 enum-told : tie.Need-enum-told
 enum-told c = search needs
@@ -31,29 +33,20 @@ no-line-requires-2 : tie.Need-no-line-requires-2
 no-line-requires-2 c κs = search needs
 
 returns : tie.Need-returns
-returns c = c .found-numbers .ensures ∙ ap whoNumbers (ap sought (sym (c .before .before .f .given .1)) ∙ c .before .before .before .before .who .ensures)
+returns c =
+    let x = c .before .before .before .before .before .args in
+    line-found (cellOf (x .cell .now)) (x .tn) (x .arfcn) (x .frame) (x .direction) (c .before .before .line .given .0 .0) (ap sought (sym (c .before .before .line .given .1)) ∙ c .before .before .before .before .who .ensures) (c .tdma-line .ensures)
 
 returns-2 : tie.Need-returns-2
-returns-2 c = c .no-line .ensures ∙ ap whoNumbers (ap sought (sym (c .before .enum-told .given .1)) ∙ c .before .before .before .who .ensures)
+returns-2 c =
+    let x = c .before .before .before .before .args in
+    c .no-line .ensures ∙ nobody-found (whoOf (cellOf (x .cell .now)) (x .tn) (x .arfcn) (x .frame) (x .direction)) (ap sought (sym (c .before .enum-told .given .1)) ∙ c .before .before .before .who .ensures)
 
 returns-3 : tie.Need-returns-3
 returns-3 c =
-    let k = c .before .before .before in
+    let x = c .before .before .before .before .before .before .args in
     c .no-line2 .ensures
-    ∙ (ap nobody (c .before .refusal-number .ensures) ∙ ap whoNumbers (ap sought (sym (k .e .given .1)) ∙ k .before .before .who .ensures))
+    ∙ who-refused (whoOf (cellOf (x .cell .now)) (x .tn) (x .arfcn) (x .frame) (x .direction)) (refusalOf (c .before .before .before .e .given .0 .0)) (ap sought (sym (c .before .before .before .e .given .1)) ∙ c .before .before .before .before .before .who .ensures) (c .before .refusal-number .ensures)
 
 pub tdma-who-spec : {M : Type 1} → statement M
-tdma-who-spec =
-    tie.close
-    (tie.spec
-    who-requires
-    enum-known-f
-    found-numbers-requires
-    enum-told
-    no-line-requires
-    enum-known-e
-    refusal-number-requires
-    no-line-requires-2
-    returns
-    returns-2
-    returns-3)
+tdma-who-spec = tie.close (tie.spec who-requires enum-known-line tdma-line-requires enum-told no-line-requires enum-known-e refusal-number-requires no-line-requires-2 returns returns-2 returns-3)
