@@ -1,5 +1,5 @@
 -- Laws of the words that hold a cell: what is read of a line, and what a change of one line's words leaves. Assumes nothing.
-use Prim.Native.Nat.{ℕ, _+_, _*_, _/_, _%_, _^_, _<_, _≤_}
+use Prim.Native.Nat.{ℕ, zero, suc, _+_, _*_, _-_, _/_, _%_, _^_, _<_, _≤_}
 use mathlib.Core.Path.{_≡_, refl, sym, ap, subst, _∙_}
 use mathlib.Core.List.{List, [], _∷_}
 use mathlib.Core.Logic.{_⊎_, inl, inr, ⊎-elim}
@@ -7,11 +7,11 @@ use native.Mathlib.Nat.{zero-add}
 use native.Mathlib.Decide.{decLt}
 use native.Mathlib.Omega.{arith}
 use lib.ListN.{length, getD, set, length-set, List·getD-eq-default}
-use lib.Seq.{getD-set-same, getD-set-other}
+use lib.Seq.{ext-getD, getD-set-same, getD-set-other}
 use borrow.Author.Count.{below-none, below-more}
-use Rattle.cell.specs.State.{LineState, Values, tabulate, lineWith, free, closedLine, lineAt, ownerAt, empty}
+use Rattle.cell.specs.State.{LineState, Cell, Values, tabulate, lineWith, free, closedLine, lineAt, ownerAt, empty}
 use Rattle.cell.specs.Calls.{withLine, withOwner}
-use Rattle.cell.specs.Words.{word, placeOf, lineIn, cellOf}
+use Rattle.cell.specs.Words.{word, placeOf, lineIn, cellOf, Stored, SameWords}
 use Rattle.cell.specs.Helpers.{Fills}
 use Rattle.cell.proofs.Tabulate.{tabulate-at, tabulate-same, tabulate-set, tabulate-length}
 
@@ -247,3 +247,60 @@ module _ (v w u ca : List ℕ) (c0 bcc ag p : ℕ) (f : Fills 0 64 (word ca) v w
       getD-set-other with-ag 68 64 p 0 (λ z. omega arith) ∙ getD-set-other with-bcc 67 64 ag 0 (λ z. omega arith) ∙ getD-set-other with-c0 66 64 bcc 0 (λ z. omega arith)
       ∙ getD-set-other with-length 65 64 c0 0 (λ z. omega arith) ∙ getD-set-same u 64 (length ca) 0 (omega (arith, long)) in
       cc
+
+-- ---- storage that holds one cell is the same in every word
+
+module _ (v w : List ℕ) (sv : Stored v) (sw : Stored w) (e : cellOf v ≡ cellOf w) where
+  same-lines : (n : ℕ) → n < 64 → lineIn v n ≡ lineIn w n
+  same-lines n h = sym (line-at v n h) ∙ ap (λ (c : Cell). lineAt c n) e ∙ line-at w n h
+
+  -- the words of a line, from its fields
+  line-words : (n : ℕ) → lineIn v n ≡ lineIn w n → (j : ℕ) → j < 15 → word v (placeOf n + j) ≡ word w (placeOf n + j)
+  unfolding lineIn
+  line-words n q zero b =
+      let m : word v (placeOf n + 0) + 2 ^ 32 * word v (placeOf n + 1) ≡ word w (placeOf n + 0) + 2 ^ 32 * word w (placeOf n + 1) = ap (λ (l : LineState). l .mask) q in
+      omega (arith, m, sv .fit (placeOf n + 0), sw .fit (placeOf n + 0))
+  line-words n q (suc zero) b =
+      let m : word v (placeOf n + 0) + 2 ^ 32 * word v (placeOf n + 1) ≡ word w (placeOf n + 0) + 2 ^ 32 * word w (placeOf n + 1) = ap (λ (l : LineState). l .mask) q in
+      omega (arith, m, sv .fit (placeOf n + 0), sw .fit (placeOf n + 0))
+  line-words n q (suc (suc zero)) b = ap (λ (l : LineState). l .tn) q
+  line-words n q (suc (suc (suc zero))) b = ap (λ (l : LineState). l .hsn) q
+  line-words n q (suc (suc (suc (suc zero)))) b = ap (λ (l : LineState). l .maio) q
+  line-words n q (suc (suc (suc (suc (suc zero))))) b = ap (λ (l : LineState). l .combination) q
+  line-words n q (suc (suc (suc (suc (suc (suc zero)))))) b = ap (λ (l : LineState). l .tsc) q
+  line-words n q (suc (suc (suc (suc (suc (suc (suc s))))))) b =
+      let h : s < 8 = omega arith in
+      let z : 7 + s ≡ suc (suc (suc (suc (suc (suc (suc s)))))) = omega arith in
+      let o = ap (λ (l : LineState). ownerAt l s) q in
+      ap (λ (j : ℕ). word v (placeOf n + j)) (sym z)
+      ∙ sym (tabulate-at 8 (λ (k : ℕ). word v (placeOf n + (7 + k))) 0 s h)
+      ∙ o
+      ∙ tabulate-at 8 (λ (k : ℕ). word w (placeOf n + (7 + k))) 0 s h
+      ∙ ap (λ (j : ℕ). word w (placeOf n + j)) z
+
+  five-words : (i : ℕ) → i < 5 → word v (64 + i) ≡ word w (64 + i)
+  unfolding cellOf
+  five-words zero b = ap (λ (c : Cell). c .length) e
+  five-words (suc zero) b = ap (λ (c : Cell). c .c0) e
+  five-words (suc (suc zero)) b = ap (λ (c : Cell). c .bcc) e
+  five-words (suc (suc (suc zero))) b = ap (λ (c : Cell). c .ag) e
+  five-words (suc (suc (suc (suc zero)))) b = ap (λ (c : Cell). c .p) e
+  five-words (suc (suc (suc (suc (suc i))))) b = absurd (omega arith)
+
+  same-word : (k : ℕ) → k < 1029 → word v k ≡ word w k
+  same-word k h = part (decLt k 64) (decLt k 69)
+    where
+      part : Dec (k < 64) → Dec (k < 69) → word v k ≡ word w k
+      part (yes l) d = sym (entry-in v k l) ∙ ap (λ (c : Cell). getD (c .ca) k 0) e ∙ entry-in w k l
+      part (no l) (yes m) =
+          let z : 64 + (k - 64) ≡ k = omega arith in
+          ap (word v) (sym z) ∙ five-words (k - 64) (omega arith) ∙ ap (word w) z
+      part (no l) (no m) =
+          let n : ℕ = (k - 69) / 15 in
+          let j : ℕ = (k - 69) % 15 in
+          let z : placeOf n + j ≡ k = omega arith in
+          ap (word v) (sym z) ∙ line-words n (same-lines n (omega arith)) j (omega arith) ∙ ap (word w) z
+
+pub same-words : SameWords
+unfolding SameWords
+same-words v w sv sw e = ext-getD 0 v w (sv .count ∙ sym (sw .count)) (λ k h. same-word v w sv sw e k (let c = sv .count in omega arith))

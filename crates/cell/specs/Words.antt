@@ -1,7 +1,8 @@
 -- The words that hold a cell: storage that the caller lends, and only the calls look into. Assumes nothing.
-use Prim.Native.Nat.{ℕ, _+_, _*_, _^_}
+use Prim.Native.Nat.{ℕ, _+_, _*_, _^_, _<_}
+use mathlib.Core.Path.{_≡_}
 use mathlib.Core.List.{List}
-use lib.ListN.{getD}
+use lib.ListN.{length, getD}
 use Rattle.cell.specs.State.{LineState, Cell, tabulate, lineCount, ownerRoom}
 
 abbrev pub word : List ℕ → ℕ → ℕ
@@ -23,3 +24,12 @@ lineIn words n =
 unfoldable pub cellOf : List ℕ → Cell
 cellOf words =
     record { ca = tabulate 64 (word words); length = word words 64; c0 = word words 65; bcc = word words 66; ag = word words 67; p = word words 68; lines = tabulate lineCount (lineIn words) }
+
+-- the storage of a cell: that many words of 32 bits
+pub record Stored (words : List ℕ) : Type 0 where
+  pub count : length words ≡ 1029
+  pub fit : (k : ℕ) → word words k < 2 ^ 32
+
+-- Storage that holds one cell is the same in every word: where a call leaves the cell as it came, no word has changed. proofs/Storage.antt proves it
+unfoldable pub SameWords : Type 0
+SameWords = (v w : List ℕ) → Stored v → Stored w → cellOf v ≡ cellOf w → v ≡ w
