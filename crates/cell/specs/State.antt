@@ -5,7 +5,7 @@ use mathlib.Core.List.{List, [], _∷_}
 use lib.Dec.{eqb}
 use lib.ListN.{length, getD, take}
 
--- a line: its six values, and the owner of each subchannel
+-- "A line is closed, or has TN, mask, HSN, MAIO, combination, TSC (training code) 0–7, and for each s an owner 1–65,535, or 0 for free."
 pub record LineState : Type 0 where
   pub mask : ℕ
   pub tn : ℕ
@@ -15,7 +15,8 @@ pub record LineState : Type 0 where
   pub tsc : ℕ
   pub owners : List ℕ
 
--- "CA, C0 in CA, BCC 0–7, BS_AG_BLKS_RES (AG) 0–7, BS_PA_MFRMS (P) 2–9, and 64 lines". CA is the first `length` entries of `ca`, and 0 follows them
+-- "A cell is CA, C0 (an ARFCN of CA), BCC 0–7, BS_AG_BLKS_RES (AG) 0–7, BS_PA_MFRMS (P) 2–9, and 64 lines." CA is the first `length` entries of
+-- `ca`, and 0 follows them
 pub record Cell : Type 0 where
   pub ca : List ℕ
   pub length : ℕ
