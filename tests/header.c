@@ -23,6 +23,11 @@ struct word_after_a_byte {
 typedef char cell_size[sizeof(tdma_cell) == LIBRARY_CELL_WORDS * sizeof(uint32_t) ? 1 : -1];
 typedef char cell_alignment[offsetof(struct cell_after_a_byte, cell) ==
                             offsetof(struct word_after_a_byte, word) ? 1 : -1];
+typedef char split_answer_size[sizeof(tdma_split_answer) == 24 ? 1 : -1];
+typedef char join_answer_size[sizeof(tdma_join_answer) == 8 ? 1 : -1];
+typedef char position_answer_size[sizeof(tdma_position_answer) == 8 ? 1 : -1];
+typedef char hop_answer_size[sizeof(tdma_hop_answer) == 8 ? 1 : -1];
+typedef char map_answer_size[sizeof(tdma_map_answer) == 8 ? 1 : -1];
 typedef char changed_size[sizeof(tdma_changed) == 8 ? 1 : -1];
 typedef char line_answer_size[sizeof(tdma_line_answer) == 40 ? 1 : -1];
 typedef char who_answer_size[sizeof(tdma_who_answer) == 12 + 40 ? 1 : -1];
