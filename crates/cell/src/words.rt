@@ -2,7 +2,7 @@
 // and P, then fifteen words for each line.
 ghost use mathlib.Core.Path.{_≡_};
 ghost use lib.ListN.{length, getD};
-ghost use Prim.Native.Nat.{ℕ, _+_, _*_, _/_, _%_, _^_, _<_, _≤_};
+ghost use Prim.Native.Nat.{_+_, _*_, _/_, _%_, _^_, _<_, _≤_};
 ghost use Rattle.cell.specs.State.{lineWith, free, lineAt, ownerAt, empty};
 ghost use Rattle.cell.specs.Calls.{withLine, withOwner};
 ghost use Rattle.cell.specs.Words.{word, placeOf, cellOf};

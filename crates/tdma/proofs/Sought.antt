@@ -1,6 +1,6 @@
 -- The numbers of who's answer, from the number of the line and its answer. Assumes nothing.
 use Prim.Native.Nat.{ℕ}
-use mathlib.Core.Path.{_≡_, refl, sym, ap, _∙_}
+use mathlib.Core.Path.{_≡_, refl, ap, _∙_}
 use mathlib.Core.Option.{Option, none, some}
 use native.Mathlib.Omega.{arith}
 use Rattle.answers.specs.Outcome.{Refused, Outcome, refused, accepted}

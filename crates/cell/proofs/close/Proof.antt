@@ -1,5 +1,5 @@
 -- `close` meets its contract: its tests are the causes, in order, and then the line is a closed one. Assumes nothing.
-use mathlib.Core.Path.{_≡_, sym, ap, _∙_}
+use mathlib.Core.Path.{sym, ap, _∙_}
 use mathlib.Core.Bool.{not}
 use mathlib.Core.List.{List}
 use borrow.Author.Needs.{needs}

@@ -6,7 +6,6 @@ use Rattle.answers.proofs.Decide.{refused-by, accepted-by}
 use Rattle.cell.specs.Words.{cellOf}
 use Rattle.cell.specs.OnAir.{lineCauses, lineOf}
 use Rattle.cell.proofs.Lines.{in-table, closed-line, open-line}
-use borrow.Author.Needs.{needs}
 use Rattle.cell.proofs.line.Statement.{statement}
 use Rattle.cell.proofs.line.Tie as tie
 

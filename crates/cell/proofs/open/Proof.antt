@@ -1,5 +1,5 @@
 -- `open` meets its contract: its tests are the causes, in order, and then the line has the six values. Assumes nothing.
-use Prim.Native.Nat.{ℕ, _<_}
+use Prim.Native.Nat.{ℕ}
 use mathlib.Core.Path.{_≡_, sym, ap, _∙_}
 use mathlib.Core.Bool.{false}
 use mathlib.Core.List.{List, [], _∷_}
@@ -9,7 +9,7 @@ use lib.Dec.{ltb}
 use borrow.Author.Needs.{needs}
 use borrow.Author.Tests.{lt-ltb, le-ltb}
 use Rattle.answers.specs.Outcome.{Cause}
-use Rattle.answers.specs.Search.{anyBelow, least}
+use Rattle.answers.specs.Search.{anyBelow}
 use Rattle.answers.specs.declared.Answer.the-variants.{Accepted}
 use Rattle.answers.proofs.Decide.{combined, any-combined, refused-by, accepted-by}
 use Rattle.answers.proofs.Search.{any-least}

@@ -1,10 +1,9 @@
 -- `pass` meets its contract: its tests are the causes, in order, and then the subchannel has the other owner. Assumes nothing.
-use Prim.Native.Nat.{ℕ, _<_}
-use mathlib.Core.Path.{_≡_, sym, ap, _∙_}
-use mathlib.Core.Bool.{false, not, _||_}
+use Prim.Native.Nat.{_<_}
+use mathlib.Core.Path.{sym, ap, _∙_}
+use mathlib.Core.Bool.{not}
 use mathlib.Core.List.{List}
 use native.Mathlib.Omega.{arith}
-use lib.Dec.{ltb, eqb}
 use borrow.Author.Needs.{needs}
 use borrow.Author.Tests.{eq-eqb, ne-eqb}
 use Rattle.answers.specs.Outcome.{Cause}
@@ -12,9 +11,9 @@ use Rattle.answers.specs.Refusals.{refusalOf}
 use Rattle.answers.specs.declared.Answer.the-variants.{Accepted}
 use Rattle.answers.proofs.Decide.{refused-by, accepted-by}
 use Rattle.answers.proofs.Tests.{le-not-ltb, lt-not-ltb}
-use Rattle.cell.specs.State.{Cell, LineState, lineAt, ownerAt}
+use Rattle.cell.specs.State.{LineState, lineAt}
 use Rattle.cell.specs.Words.{cellOf}
-use Rattle.cell.specs.Calls.{step, changed, badOwner, subchannels}
+use Rattle.cell.specs.Calls.{step, changed, subchannels}
 use Rattle.cell.specs.Helpers.{passCauses, passOf}
 use Rattle.cell.proofs.Lines.{in-table, closed-line, open-line, has-room}
 use Rattle.cell.proofs.pass.Statement.{statement}

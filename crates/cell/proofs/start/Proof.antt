@@ -1,9 +1,8 @@
 -- `start` meets its contract: its tests are the causes, in order, and then the cell has the list as its CA. Assumes nothing.
-use Prim.Native.Nat.{ℕ, _≤_}
+use Prim.Native.Nat.{ℕ}
 use mathlib.Core.Path.{_≡_, sym, ap, _∙_}
 use mathlib.Core.Bool.{true, not}
 use mathlib.Core.List.{List}
-use native.Mathlib.Omega.{arith}
 use lib.Dec.{ltb, eqb}
 use lib.ListN.{length, getD}
 use borrow.Author.Needs.{needs}
@@ -15,7 +14,6 @@ use Rattle.answers.proofs.Search.{any-least}
 use Rattle.answers.proofs.Tests.{or-left, or-right, or-none}
 use Rattle.hopping.specs.Allocation.{isAllocation}
 use Rattle.hopping.proofs.Apart.{at-most-64}
-use Rattle.cell.specs.Words.{cellOf}
 use Rattle.cell.specs.Calls.{step, changed, lists, startCauses, refusedCell, startOf}
 use Rattle.cell.proofs.start.Statement.{statement}
 use Rattle.cell.proofs.start.Tie as tie

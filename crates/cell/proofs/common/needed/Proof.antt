@@ -4,7 +4,6 @@ use mathlib.Core.Path.{_≡_, sym, ap, _∙_}
 use mathlib.Core.Bool.{Bool, true, false, _&&_, _||_}
 use lib.Dec.{eqb}
 use borrow.Author.Tests.{not-true, not-false}
-use Rattle.cell.specs.State.{lineAt}
 use Rattle.cell.specs.Words.{cellOf}
 use Rattle.cell.specs.Calls.{anyLine, standsIn}
 use borrow.Author.Needs.{needs}

@@ -1,6 +1,5 @@
 -- `words::owner_at` meets its contract: the last eight words of line n are its owners. Assumes nothing.
-use Prim.Native.Nat.{ℕ, _+_, _≤_}
-use mathlib.Core.Path.{sym, ap, _∙_}
+use mathlib.Core.Path.{sym, _∙_}
 use native.Mathlib.Omega.{arith}
 use borrow.Author.Needs.{needs}
 use Rattle.cell.proofs.Storage.{owner-in, owner-past}

@@ -2,7 +2,6 @@
 use mathlib.Core.Path.{sym}
 use native.Mathlib.Nat.{mod-eq-of-lt}
 use Rattle.hopping.proofs.Mai.{less-once}
-use borrow.Author.Needs.{needs}
 use Rattle.hopping.proofs.sequence.wrapped.Statement.{statement}
 use Rattle.hopping.proofs.sequence.wrapped.Tie as tie
 
