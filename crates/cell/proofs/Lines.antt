@@ -1,7 +1,7 @@
 -- What the calls' tests show of a line: that it is in the table, that it is open or closed, and that a subchannel has room. Assumes nothing.
 use Prim.Native.Nat.{ℕ, _≤_, _<_}
-use mathlib.Core.Path.{_≡_, ap}
-use mathlib.Core.Bool.{Bool, true, false, not, _||_, cond}
+use mathlib.Core.Path.{_≡_, sym, ap, _∙_}
+use mathlib.Core.Bool.{Bool, true, false, not, _&&_, _||_, cond}
 use native.Mathlib.Omega.{arith}
 use lib.Dec.{ltb, eqb, lit≤}
 use borrow.Author.Tests.{ltb-false, eq-eqb, ne-eqb}
@@ -28,3 +28,10 @@ has-room k = go (eqb k 1) (eqb k 2) (eqb k 5) (eqb k 7)
     go false false true d = lit≤ {m = 4} {n = 8} tt
     go false false false true = lit≤ {m = 8} {n = 8} tt
     go false false false false = lit≤ {m = 0} {n = 8} tt
+
+-- tests one after the other: the first fails, or the next decides
+pub fails : (a y : Bool) → a ≡ false → false ≡ (a && y)
+fails a y p = sym (ap (λ (t : Bool). t && y) p)
+
+pub decides : (a x y : Bool) → a ≡ true → x ≡ y → x ≡ (a && y)
+decides a x y p e = e ∙ sym (ap (λ (t : Bool). t && y) p)

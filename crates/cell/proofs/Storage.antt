@@ -49,19 +49,25 @@ module _ (words : List ℕ) (n s : ℕ) (h : n < 64) where
 abbrev pub Outside : ℕ → ℕ → Type 0
 Outside n k = (k < placeOf n) ⊎ (placeOf n + 15 ≤ k)
 
+-- a line by its fifteen words
+line-by : (w : List ℕ) (n : ℕ) (f : ℕ → ℕ) → ((k : ℕ) → k < 15 → word w (placeOf n + k) ≡ f k)
+    → lineIn w n ≡ record { mask = f 0 + 2 ^ 32 * f 1; tn = f 2; hsn = f 3; maio = f 4; combination = f 5; tsc = f 6; owners = tabulate 8 (λ s. f (7 + s)) }
+unfolding lineIn
+line-by w n f e =
+    let e0 = e 0 (omega arith) in
+    let e1 = e 1 (omega arith) in
+    let e2 = e 2 (omega arith) in
+    let e3 = e 3 (omega arith) in
+    let e4 = e 4 (omega arith) in
+    let e5 = e 5 (omega arith) in
+    let e6 = e 6 (omega arith) in
+    let o = tabulate-same 8 (λ (s : ℕ). word w (placeOf n + (7 + s))) (λ (s : ℕ). f (7 + s)) (λ s h. e (7 + s) (omega arith)) in
+    cc
+
 module _ (v w : List ℕ) where
-  pub same-line : (n : ℕ) → ((k : ℕ) → k < 15 → word v (placeOf n + k) ≡ word w (placeOf n + k)) → lineIn v n ≡ lineIn w n
+  same-line : (n : ℕ) → ((k : ℕ) → k < 15 → word v (placeOf n + k) ≡ word w (placeOf n + k)) → lineIn v n ≡ lineIn w n
   unfolding lineIn
-  same-line n e =
-      let e0 = e 0 (omega arith) in
-      let e1 = e 1 (omega arith) in
-      let e2 = e 2 (omega arith) in
-      let e3 = e 3 (omega arith) in
-      let e4 = e 4 (omega arith) in
-      let e5 = e 5 (omega arith) in
-      let e6 = e 6 (omega arith) in
-      let o = tabulate-same 8 (λ (s : ℕ). word v (placeOf n + (7 + s))) (λ (s : ℕ). word w (placeOf n + (7 + s))) (λ s h. e (7 + s) (omega arith)) in
-      cc
+  same-line n e = line-by v n (λ (k : ℕ). word w (placeOf n + k)) e
 
   -- where only line n's words differ, the cell is the one with another line n
   pub other-line : (n : ℕ) → n < 64 → ((k : ℕ) → Outside n k → word w k ≡ word v k) → cellOf w ≡ withLine (cellOf v) n (lineIn w n)
@@ -155,17 +161,10 @@ module _ (v w : List ℕ) (n tn mask hsn maio combination tsc low high : ℕ) wh
   values = record { tn = tn; mask = mask; hsn = hsn; maio = maio; combination = combination; tsc = tsc }
 
   new-line : low ≡ mask % 2 ^ 32 → high ≡ mask / 2 ^ 32 → ((k : ℕ) → k < 15 → word w (placeOf n + k) ≡ word words k) → lineIn w n ≡ lineWith values free
-  unfolding lineIn tabulate
+  unfolding tabulate
   new-line l h e =
-      let m : word w (placeOf n + 0) + 2 ^ 32 * word w (placeOf n + 1) ≡ mask = let e0 = e 0 (omega arith) in let e1 = e 1 (omega arith) in omega (arith, e0, e1, l, h) in
-      let e2 = e 2 (omega arith) in
-      let e3 = e 3 (omega arith) in
-      let e4 = e 4 (omega arith) in
-      let e5 = e 5 (omega arith) in
-      let e6 = e 6 (omega arith) in
-      let o : tabulate 8 (λ s. word w (placeOf n + (7 + s))) ≡ tabulate 8 free =
-      tabulate-same 8 (λ (s : ℕ). word w (placeOf n + (7 + s))) (λ (s : ℕ). word words (7 + s)) (λ s b. e (7 + s) (omega arith)) in
-      cc
+      line-by w n (word words) e
+      ∙ ap {B = LineState} (λ (m : ℕ). record { mask = m; tn = tn; hsn = hsn; maio = maio; combination = combination; tsc = tsc; owners = tabulate 8 free }) (let m : low + 2 ^ 32 * high ≡ mask = omega (arith, l, h) in m)
 
   pub filled-line : n < 64 → low ≡ mask % 2 ^ 32 → high ≡ mask / 2 ^ 32 → Fills (placeOf n) 15 (word words) v w → cellOf w ≡ withLine (cellOf v) n (lineWith values free)
   filled-line b l h f = other-line v w n b (f .1) ∙ ap (withLine (cellOf v) n) (new-line l h (f .0))
@@ -174,16 +173,8 @@ module _ (v w : List ℕ) (n tn mask hsn maio combination tsc low high : ℕ) wh
 
 -- a line of zeros is closed
 zero-line : (w : List ℕ) (n : ℕ) → ((k : ℕ) → k < 15 → word w (placeOf n + k) ≡ 0) → lineIn w n ≡ closedLine
-unfolding lineIn closedLine
-zero-line w n e =
-    let m : word w (placeOf n + 0) + 2 ^ 32 * word w (placeOf n + 1) ≡ 0 = let e0 = e 0 (omega arith) in let e1 = e 1 (omega arith) in omega (arith, e0, e1) in
-    let e2 = e 2 (omega arith) in
-    let e3 = e 3 (omega arith) in
-    let e4 = e 4 (omega arith) in
-    let e5 = e 5 (omega arith) in
-    let e6 = e 6 (omega arith) in
-    let o = tabulate-same 8 (λ (s : ℕ). word w (placeOf n + (7 + s))) free (λ s b. e (7 + s) (omega arith)) in
-    cc
+unfolding closedLine
+zero-line w n e = line-by w n (λ (k : ℕ). 0) e
 
 -- v is as it came, then CA was put, then the lines were closed, and then the five numbers put
 module _ (v w u ca : List ℕ) (c0 bcc ag p : ℕ) (f : Fills 0 64 (word ca) v w) (g : Fills 69 960 (λ k. 0) w u) (long : length u ≡ 1029) where

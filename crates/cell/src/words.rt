@@ -182,22 +182,6 @@ pub(crate) fn put_line(
     );
 }
 
-fn wide(a: u16) -> u32
-    ensures { λ r. ⌜ r ≡ a ⌝ }
-{
-    a as u32
-}
-
-// Entry k of a list, 0 past the end.
-fn listed(ca: &[u16], k: usize) -> u32
-    ensures { λ r. ⌜ r ≡ getD (now (ca .entry)) k 0 ⌝ }
-{
-    if k >= ca.len() {
-        return 0;
-    }
-    wide(ca[k])
-}
-
 // The first 64 words become the list, with 0 past its end.
 fn put_allocation(cell: &mut [u32], ca: &[u16])
     requires { ⌜ length (now cell) ≡ 1029 ⌝ }
@@ -205,7 +189,7 @@ fn put_allocation(cell: &mut [u32], ca: &[u16])
 {
     let mut k = 0;
     while k < 64 {
-        cell[k] = listed(ca, k);
+        cell[k as usize] = hopping::allocation::entry(ca, k);
         k += 1;
     }
 }

@@ -4,11 +4,11 @@ use mathlib.Core.Path.{_≡_, refl, ap, _∙_, sym, subst}
 use mathlib.Core.List.{List, [], _∷_}
 use mathlib.Core.Option.{Option, none}
 use Rattle.answers.specs.Outcome.{Refused, Outcome}
-use Rattle.tdma.specs.declared.cells.TdmaChanged.{TdmaChanged}
+use Rattle.tdma.specs.declared.TdmaAnswer.{TdmaAnswer}
 use Rattle.tdma.specs.declared.cells.TdmaLine.{TdmaLine}
 use Rattle.tdma.specs.declared.cells.TdmaWho.{TdmaWho}
-use Rattle.tdma.specs.Numbers.{refusalNumber, refusalValue}
-use Rattle.tdma.specs.Cells.{answerNumbers, lineNumbers}
+use Rattle.tdma.specs.Numbers.{refusalNumber, refusalValue, answerNumbers}
+use Rattle.tdma.specs.Cells.{lineNumbers}
 use Rattle.cell.specs.State.{Cell}
 use Rattle.cell.specs.OnAir.{Slot, lineOf}
 use Rattle.cell.specs.History.{Call, Made}
@@ -31,8 +31,8 @@ who-numbers e = (ap (λ (x : TdmaWho). x .refusal) e, (ap (λ (x : TdmaWho). x .
 -- ---- a list of accepted calls, each made on the cell that the one before it left
 
 -- a call that the definition accepts is told as accepted
-pub told : {a : TdmaChanged} {r : Option Refused} → a ≡ answerNumbers r → r ≡ none → (a .refusal ≡ 0) × (a .line ≡ 0)
-told e h = (ap (λ (x : TdmaChanged). x .refusal) e ∙ ap refusalNumber h, ap (λ (x : TdmaChanged). x .line) e ∙ ap refusalValue h)
+pub told : {a : TdmaAnswer} {r : Option Refused} → a ≡ answerNumbers r → r ≡ none → (a .refusal ≡ 0) × (a .value ≡ 0)
+told e h = (ap (λ (x : TdmaAnswer). x .refusal) e ∙ ap refusalNumber h, ap (λ (x : TdmaAnswer). x .value) e ∙ ap refusalValue h)
 
 -- as many answers without a refusal as there are calls
 unfoldable pub nones : List Call → List (Option Refused)
@@ -63,8 +63,8 @@ called {cell} {after} {end} {x} {xs} l e =
     tail (y ∷ ys) = ys
 
 -- the next call is accepted
-pub next-accepted : {a : TdmaChanged} {cell end : Cell} {x : Call} {xs : List Call} → Remaining cell (x ∷ xs) end
-    → a ≡ answerNumbers (calling cell x .refusal) → (a .refusal ≡ 0) × (a .line ≡ 0)
+pub next-accepted : {a : TdmaAnswer} {cell end : Cell} {x : Call} {xs : List Call} → Remaining cell (x ∷ xs) end
+    → a ≡ answerNumbers (calling cell x .refusal) → (a .refusal ≡ 0) × (a .value ≡ 0)
 unfolding refusals nones
 next-accepted l e = told e (ap head (l .accepted))
   where

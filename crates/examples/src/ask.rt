@@ -1,11 +1,11 @@
 // Each question, asked of the library by its C functions and printed with the answer. CA is 10, 20, 30, 40, and the phone's IMSI is 123.
 use crate::print;
 use cell::words::WORDS;
+use tdma::TdmaAnswer;
 use tdma::TdmaHop;
 use tdma::TdmaJoin;
 use tdma::TdmaMap;
 use tdma::TdmaSplit;
-use tdma::cells::TdmaChanged;
 use tdma::cells::TdmaLine;
 use tdma::cells::TdmaPage;
 use tdma::cells::TdmaWho;
@@ -56,7 +56,7 @@ pub(crate) fn map(combination: u32, tn: u32, frame: u32, direction: u32) -> Tdma
     a
 }
 
-pub(crate) fn start(cell: &mut [u32; WORDS], c0: u32, bcc: u32, ag: u32, p: u32) -> TdmaChanged
+pub(crate) fn start(cell: &mut [u32; WORDS], c0: u32, bcc: u32, ag: u32, p: u32) -> TdmaAnswer
     ensures { λ r. ⌜ Left r (now (cell .exit)) (startOf ca c0 bcc ag p) ⌝ }
 {
     let allocation = [10u16, 20, 30, 40];
@@ -74,7 +74,7 @@ pub(crate) fn open(
     maio: u32,
     combination: u32,
     tsc: u32,
-) -> TdmaChanged
+) -> TdmaAnswer
     ensures { λ r. ⌜ Left r (now (cell .exit)) (openOf (cellOf (now (cell .entry))) line (values tn mask hsn maio combination tsc)) ⌝ }
 {
     let a = tdma::cells::tdma_open(cell, line, tn, mask, hsn, maio, combination, tsc);
@@ -87,12 +87,12 @@ pub(crate) fn open(
         combination,
         tsc,
         a.refusal,
-        a.line,
+        a.value,
     );
     a
 }
 
-pub(crate) fn seize(cell: &mut [u32; WORDS], line: u32, s: u32, owner: u32) -> TdmaChanged
+pub(crate) fn seize(cell: &mut [u32; WORDS], line: u32, s: u32, owner: u32) -> TdmaAnswer
     ensures { λ r. ⌜ Left r (now (cell .exit)) (seizeOf (cellOf (now (cell .entry))) line s owner) ⌝ }
 {
     let a = tdma::cells::tdma_seize(cell, line, s, owner);

@@ -1,9 +1,9 @@
 // What the answers have to be. The checks run: every number of an answer is compared. Each `requires` makes its check a proof obligation.
+use tdma::TdmaAnswer;
 use tdma::TdmaHop;
 use tdma::TdmaJoin;
 use tdma::TdmaMap;
 use tdma::TdmaSplit;
-use tdma::cells::TdmaChanged;
 use tdma::cells::TdmaLine;
 use tdma::cells::TdmaPage;
 use tdma::cells::TdmaWho;
@@ -88,11 +88,11 @@ pub(crate) fn expect_idle(a: TdmaMap)
     expect_map(a, 0, 0, 0, 0, 0);
 }
 
-pub(crate) fn expect_accepted(a: TdmaChanged)
-    requires { ⌜ (a .refusal ≡ 0) × (a .line ≡ 0) ⌝ }
+pub(crate) fn expect_accepted(a: TdmaAnswer)
+    requires { ⌜ (a .refusal ≡ 0) × (a .value ≡ 0) ⌝ }
 {
     equal(a.refusal, 0);
-    equal(a.line, 0);
+    equal(a.value, 0);
 }
 
 fn expect_line(a: TdmaLine, b: TdmaLine)

@@ -3,25 +3,21 @@ use Prim.Native.Nat.{ℕ}
 use mathlib.Core.Path.{_≡_}
 use mathlib.Core.List.{List}
 use mathlib.Core.Option.{Option, none, some}
-use Rattle.answers.specs.Outcome.{Refused, Outcome, refused, accepted}
+use Rattle.answers.specs.Outcome.{Outcome, refused, accepted}
 use Rattle.frame_map.specs.Numbers.{Numbers, noNumbers, standingNumbers}
 use Rattle.cell.specs.Words.{cellOf}
 use Rattle.cell.specs.Calls.{Step}
 use Rattle.cell.specs.OnAir.{Slot}
 use Rattle.cell.specs.Who.{Match}
 use Rattle.paging.specs.declared.PagingBlock.{PagingBlock}
-use Rattle.tdma.specs.declared.cells.TdmaChanged.{TdmaChanged}
+use Rattle.tdma.specs.declared.TdmaAnswer.{TdmaAnswer}
 use Rattle.tdma.specs.declared.cells.TdmaLine.{TdmaLine}
 use Rattle.tdma.specs.declared.cells.TdmaWho.{TdmaWho}
 use Rattle.tdma.specs.declared.cells.TdmaPage.{TdmaPage}
-use Rattle.tdma.specs.Numbers.{refusalNumber, refusalValue}
-
--- the refusal, 0 where the call is accepted, and with 9 the line in the way
-abbrev pub answerNumbers : Option Refused → TdmaChanged
-answerNumbers r = record { refusal = refusalNumber r; line = refusalValue r }
+use Rattle.tdma.specs.Numbers.{answerNumbers}
 
 -- the answer, and the cell that the words hold after a call, are the definition's
-abbrev pub Left : TdmaChanged → List ℕ → Step → Type 0
+abbrev pub Left : TdmaAnswer → List ℕ → Step → Type 0
 Left r words s = (r ≡ answerNumbers (s .refusal)) × (cellOf words ≡ s .cell)
 
 abbrev pub lineFields : ℕ → ℕ → Numbers → TdmaLine

@@ -8,6 +8,7 @@ use Rattle.clock.specs.declared.Frame.{Frame}
 use Rattle.clock.specs.Clock.{primeOf}
 use Rattle.frame_map.specs.Channels.{Standing}
 use Rattle.frame_map.specs.Numbers.{Numbers, numbersOf}
+use Rattle.tdma.specs.declared.TdmaAnswer.{TdmaAnswer}
 use Rattle.tdma.specs.declared.TdmaSplit.{TdmaSplit}
 use Rattle.tdma.specs.declared.TdmaJoin.{TdmaJoin}
 use Rattle.tdma.specs.declared.TdmaPosition.{TdmaPosition}
@@ -29,6 +30,10 @@ refusalNumber (some r) = r .number
 abbrev pub refusalValue : Option Refused → ℕ
 refusalValue none = 0
 refusalValue (some r) = valueOf r
+
+-- a call whose result is in the lent words or bytes: the refusal, 0 where it is accepted, and the value that comes with it
+abbrev pub answerNumbers : Option Refused → TdmaAnswer
+answerNumbers r = record { refusal = refusalNumber r; value = refusalValue r }
 
 -- T3' where it is given: `given` is 1
 abbrev pub withPrime : Frame → Option ℕ → TdmaSplit

@@ -1,34 +1,12 @@
 // The bursts, one bit to a byte, in buffers that the caller lends.
-use crate::refusal_number;
-use crate::refusal_value;
-use answers::Answer;
-ghost use mathlib.Core.List.{[]};
-ghost use mathlib.Core.Path.{_≡_};
-ghost use Rattle.bursts.specs.Bursts.{wrote, buildNormalOf, takeNormalOf, buildSynchronizationOf, takeSynchronizationOf, buildAccessOf, takeAccessOf, buildFrequencyCorrectionOf, buildDummyOf};
-ghost use Rattle.tdma.specs.Buffers.{burstNumbers, Wrote};
-
-// The refusal, and for 15 the lowest bit number at which a fixed bit differs.
-#[repr(C)]
-pub struct TdmaBurst {
-    pub refusal: u32,
-    pub bit: u32,
-}
-
-fn answer_numbers(a: Answer) -> TdmaBurst
-    ensures { λ r. ⌜ r ≡ burstNumbers (wrote a []) ⌝ }
-{
-    match a {
-        Answer::Accepted => TdmaBurst { refusal: 0, bit: 0 },
-        Answer::Refused(e) => TdmaBurst {
-            refusal: refusal_number(e),
-            bit: refusal_value(e),
-        },
-    }
-}
+use crate::TdmaAnswer;
+use crate::answer_numbers;
+ghost use Rattle.bursts.specs.Bursts.{buildNormalOf, takeNormalOf, buildSynchronizationOf, takeSynchronizationOf, buildAccessOf, takeAccessOf, buildFrequencyCorrectionOf, buildDummyOf};
+ghost use Rattle.tdma.specs.Buffers.{Wrote};
 
 // A normal burst with this training sequence code and payload.
 #[no_mangle]
-pub extern "C" fn tdma_build_normal(tsc: u32, payload: &[u8], burst: &mut [u8]) -> TdmaBurst
+pub extern "C" fn tdma_build_normal(tsc: u32, payload: &[u8], burst: &mut [u8]) -> TdmaAnswer
     ensures { λ r. ⌜ Wrote r (now (burst .exit)) (buildNormalOf tsc (now (payload .entry)) (now (burst .entry))) ⌝ }
 {
     answer_numbers(bursts::build_normal(tsc, payload, burst))
@@ -36,49 +14,49 @@ pub extern "C" fn tdma_build_normal(tsc: u32, payload: &[u8], burst: &mut [u8]) 
 
 // The payload of a normal burst with this training sequence code.
 #[no_mangle]
-pub extern "C" fn tdma_take_normal(tsc: u32, burst: &[u8], payload: &mut [u8]) -> TdmaBurst
+pub extern "C" fn tdma_take_normal(tsc: u32, burst: &[u8], payload: &mut [u8]) -> TdmaAnswer
     ensures { λ r. ⌜ Wrote r (now (payload .exit)) (takeNormalOf tsc (now (burst .entry)) (now (payload .entry))) ⌝ }
 {
     answer_numbers(bursts::take_normal(tsc, burst, payload))
 }
 
 #[no_mangle]
-pub extern "C" fn tdma_build_synchronization(payload: &[u8], burst: &mut [u8]) -> TdmaBurst
+pub extern "C" fn tdma_build_synchronization(payload: &[u8], burst: &mut [u8]) -> TdmaAnswer
     ensures { λ r. ⌜ Wrote r (now (burst .exit)) (buildSynchronizationOf (now (payload .entry)) (now (burst .entry))) ⌝ }
 {
     answer_numbers(bursts::build_synchronization(payload, burst))
 }
 
 #[no_mangle]
-pub extern "C" fn tdma_take_synchronization(burst: &[u8], payload: &mut [u8]) -> TdmaBurst
+pub extern "C" fn tdma_take_synchronization(burst: &[u8], payload: &mut [u8]) -> TdmaAnswer
     ensures { λ r. ⌜ Wrote r (now (payload .exit)) (takeSynchronizationOf (now (burst .entry)) (now (payload .entry))) ⌝ }
 {
     answer_numbers(bursts::take_synchronization(burst, payload))
 }
 
 #[no_mangle]
-pub extern "C" fn tdma_build_access(payload: &[u8], burst: &mut [u8]) -> TdmaBurst
+pub extern "C" fn tdma_build_access(payload: &[u8], burst: &mut [u8]) -> TdmaAnswer
     ensures { λ r. ⌜ Wrote r (now (burst .exit)) (buildAccessOf (now (payload .entry)) (now (burst .entry))) ⌝ }
 {
     answer_numbers(bursts::build_access(payload, burst))
 }
 
 #[no_mangle]
-pub extern "C" fn tdma_take_access(burst: &[u8], payload: &mut [u8]) -> TdmaBurst
+pub extern "C" fn tdma_take_access(burst: &[u8], payload: &mut [u8]) -> TdmaAnswer
     ensures { λ r. ⌜ Wrote r (now (payload .exit)) (takeAccessOf (now (burst .entry)) (now (payload .entry))) ⌝ }
 {
     answer_numbers(bursts::take_access(burst, payload))
 }
 
 #[no_mangle]
-pub extern "C" fn tdma_build_frequency_correction(burst: &mut [u8]) -> TdmaBurst
+pub extern "C" fn tdma_build_frequency_correction(burst: &mut [u8]) -> TdmaAnswer
     ensures { λ r. ⌜ Wrote r (now (burst .exit)) (buildFrequencyCorrectionOf (now (burst .entry))) ⌝ }
 {
     answer_numbers(bursts::build_frequency_correction(burst))
 }
 
 #[no_mangle]
-pub extern "C" fn tdma_build_dummy(burst: &mut [u8]) -> TdmaBurst
+pub extern "C" fn tdma_build_dummy(burst: &mut [u8]) -> TdmaAnswer
     ensures { λ r. ⌜ Wrote r (now (burst .exit)) (buildDummyOf (now (burst .entry))) ⌝ }
 {
     answer_numbers(bursts::build_dummy(burst))

@@ -1,7 +1,7 @@
 // The calls of the cell, whose words the caller lends.
+use crate::TdmaAnswer;
+use crate::answer_numbers;
 use crate::refusal_number;
-use crate::refusal_value;
-use answers::Answer;
 use cell::Aired;
 use cell::OnAir;
 use cell::Sought;
@@ -13,7 +13,6 @@ use frame_map::Kind;
 use paging::Paged;
 ghost use mathlib.Core.Path.{_≡_};
 ghost use Rattle.answers.specs.Outcome.{accepted};
-ghost use Rattle.answers.specs.Refusals.{refusalIn};
 ghost use Rattle.frame_map.specs.Channels.{kindNumber};
 ghost use Rattle.frame_map.specs.Map.{inBlocks};
 ghost use Rattle.frame_map.specs.Numbers.{noNumbers, standingNumbers};
@@ -22,14 +21,7 @@ ghost use Rattle.cell.specs.OnAir.{lineOf, slotIn};
 ghost use Rattle.cell.specs.Paging.{pageOf};
 ghost use Rattle.cell.specs.Who.{whoOf};
 ghost use Rattle.cell.specs.Words.{cellOf};
-ghost use Rattle.tdma.specs.Cells.{answerNumbers, Left, lineFields, lineNumbers, nobody, whoNumbers, pageNumbers};
-
-// The refusal, and for 9 the line in the way.
-#[repr(C)]
-pub struct TdmaChanged {
-    pub refusal: u32,
-    pub line: u32,
-}
+ghost use Rattle.tdma.specs.Cells.{Left, lineFields, lineNumbers, nobody, whoNumbers, pageNumbers};
 
 // The ARFCN and the owner; the channel, 0 for idle, its subchannel, and as many blocks and places as `blocks` says.
 #[repr(C)]
@@ -64,21 +56,6 @@ pub struct TdmaPage {
     pub frame: u32,
 }
 
-fn changed_numbers(a: Answer) -> TdmaChanged
-    ensures { λ r. ⌜ r ≡ answerNumbers (refusalIn a) ⌝ }
-{
-    match a {
-        Answer::Accepted => TdmaChanged {
-            refusal: 0,
-            line: 0,
-        },
-        Answer::Refused(e) => TdmaChanged {
-            refusal: refusal_number(e),
-            line: refusal_value(e),
-        },
-    }
-}
-
 // A cell with all lines closed.
 #[no_mangle]
 pub extern "C" fn tdma_start(
@@ -88,10 +65,10 @@ pub extern "C" fn tdma_start(
     bcc: u32,
     ag: u32,
     p: u32,
-) -> TdmaChanged
+) -> TdmaAnswer
     ensures { λ r. ⌜ Left r (now (cell .exit)) (startOf (now (ca .entry)) c0 bcc ag p) ⌝ }
 {
-    changed_numbers(cell::start(cell, ca, c0, bcc, ag, p))
+    answer_numbers(cell::start(cell, ca, c0, bcc, ag, p))
 }
 
 // The line gets the six values.
@@ -105,17 +82,17 @@ pub extern "C" fn tdma_open(
     maio: u32,
     combination: u32,
     tsc: u32,
-) -> TdmaChanged
+) -> TdmaAnswer
     ensures { λ r. ⌜ Left r (now (cell .exit)) (openOf (cellOf (now (cell .entry))) line (record { tn = tn; mask = mask; hsn = hsn; maio = maio; combination = combination; tsc = tsc })) ⌝ }
 {
-    changed_numbers(cell::open(cell, line, tn, mask, hsn, maio, combination, tsc))
+    answer_numbers(cell::open(cell, line, tn, mask, hsn, maio, combination, tsc))
 }
 
 #[no_mangle]
-pub extern "C" fn tdma_close(cell: &mut [u32; WORDS], line: u32) -> TdmaChanged
+pub extern "C" fn tdma_close(cell: &mut [u32; WORDS], line: u32) -> TdmaAnswer
     ensures { λ r. ⌜ Left r (now (cell .exit)) (closeOf (cellOf (now (cell .entry))) line) ⌝ }
 {
-    changed_numbers(cell::close(cell, line))
+    answer_numbers(cell::close(cell, line))
 }
 
 // The subchannel, if it is free, gets the owner.
@@ -125,10 +102,10 @@ pub extern "C" fn tdma_seize(
     line: u32,
     subchannel: u32,
     owner: u32,
-) -> TdmaChanged
+) -> TdmaAnswer
     ensures { λ r. ⌜ Left r (now (cell .exit)) (seizeOf (cellOf (now (cell .entry))) line subchannel owner) ⌝ }
 {
-    changed_numbers(cell::seize(cell, line, subchannel, owner))
+    answer_numbers(cell::seize(cell, line, subchannel, owner))
 }
 
 // The subchannel, if this owner holds it, is free again.
@@ -138,10 +115,10 @@ pub extern "C" fn tdma_release(
     line: u32,
     subchannel: u32,
     owner: u32,
-) -> TdmaChanged
+) -> TdmaAnswer
     ensures { λ r. ⌜ Left r (now (cell .exit)) (releaseOf (cellOf (now (cell .entry))) line subchannel owner) ⌝ }
 {
-    changed_numbers(cell::release(cell, line, subchannel, owner))
+    answer_numbers(cell::release(cell, line, subchannel, owner))
 }
 
 fn kind_number(kind: Kind) -> u32

@@ -4,6 +4,7 @@
 pub mod buffers;
 pub mod cells;
 
+use answers::Answer;
 use answers::Refusal;
 use clock::Frame;
 use clock::Joined;
@@ -14,11 +15,11 @@ use hopping::Positioned;
 ghost use mathlib.Core.Path.{_≡_};
 ghost use Prim.Native.Nat.{_*_, _/_, _%_, _^_, _<_};
 ghost use Rattle.answers.specs.Outcome.{accepted};
-ghost use Rattle.answers.specs.Refusals.{refusalOf};
+ghost use Rattle.answers.specs.Refusals.{refusalOf, refusalIn};
 ghost use Rattle.clock.specs.Clock.{splitOf, joinOf};
 ghost use Rattle.hopping.specs.Hopping.{positionOf, hopOf};
 ghost use Rattle.frame_map.specs.Map.{mapOf};
-ghost use Rattle.tdma.specs.Numbers.{valueOf, splitNumbers, joinNumbers, positionNumbers, hopNumbers, mapNumbers};
+ghost use Rattle.tdma.specs.Numbers.{valueOf, answerNumbers, splitNumbers, joinNumbers, positionNumbers, hopNumbers, mapNumbers};
 
 // T1, T2, T3, and T3' where `given` is 1.
 #[repr(C)]
@@ -60,6 +61,13 @@ pub struct TdmaMap {
     pub place: u8,
     pub block2: u8,
     pub place2: u8,
+}
+
+// The answer of a call whose result is in the lent words or bytes: the refusal, and with 9 the line in the way, with 15 the bit that differs.
+#[repr(C)]
+pub struct TdmaAnswer {
+    pub refusal: u32,
+    pub value: u32,
 }
 
 // Document 01's number of a refusal.
@@ -107,6 +115,21 @@ fn refusal_value(e: Refusal) -> u32
         Refusal::Malformed => 0,
         Refusal::FixedBit { bit } => bit,
         Refusal::NoCommonLine => 0,
+    }
+}
+
+fn answer_numbers(a: Answer) -> TdmaAnswer
+    ensures { λ r. ⌜ r ≡ answerNumbers (refusalIn a) ⌝ }
+{
+    match a {
+        Answer::Accepted => TdmaAnswer {
+            refusal: 0,
+            value: 0,
+        },
+        Answer::Refused(e) => TdmaAnswer {
+            refusal: refusal_number(e),
+            value: refusal_value(e),
+        },
     }
 }
 

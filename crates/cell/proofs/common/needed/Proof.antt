@@ -1,20 +1,15 @@
 -- `common::needed` meets its contract: the search is for a 6 two timeslots higher. Assumes nothing.
 use Prim.Native.Nat.{ℕ, _+_}
-use mathlib.Core.Path.{_≡_, sym, ap, _∙_}
-use mathlib.Core.Bool.{Bool, true, false, _&&_, _||_}
+use mathlib.Core.Path.{sym, ap, _∙_}
+use mathlib.Core.Bool.{_||_}
 use lib.Dec.{eqb}
 use borrow.Author.Tests.{not-true, not-false}
 use Rattle.cell.specs.Words.{cellOf}
 use Rattle.cell.specs.Calls.{anyLine, standsIn}
+use Rattle.cell.proofs.Lines.{fails, decides}
 use borrow.Author.Needs.{needs}
 use Rattle.cell.proofs.common.needed.Statement.{statement}
 use Rattle.cell.proofs.common.needed.Tie as tie
-
-unneeded : (a y : Bool) → a ≡ false → false ≡ (a && y)
-unneeded a y p = sym (ap (λ (t : Bool). t && y) p)
-
-decides : (a x y : Bool) → a ≡ true → x ≡ y → x ≡ (a && y)
-decides a x y p e = e ∙ sym (ap (λ (t : Bool). t && y) p)
 
 combination-at-requires : tie.Need-combination-at-requires
 combination-at-requires c κs = search needs
@@ -31,7 +26,7 @@ add-higher c = search needs
 returns : tie.Need-returns
 returns c =
     let e = ap (λ (k : ℕ). eqb k 4 || eqb k 6) (sym (c .before .before .before .combination-at .ensures)) in
-    unneeded _ _ (e ∙ not-true _ (c .if1 .taken))
+    fails _ _ (e ∙ not-true _ (c .if1 .taken))
 
 any-line-requires : tie.Need-any-line-requires
 any-line-requires c κs = search needs

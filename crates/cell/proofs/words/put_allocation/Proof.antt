@@ -19,8 +19,11 @@ abbrev μ-loop : tie.MeasureT-loop
 loop-holds : tie.Need-loop-holds Inv-loop μ-loop
 loop-holds c = let s = c .before .before in (search needs, s .pre, fills-none 0 (word (s .args .ca .now)) (s .args .cell .now))
 
-listed-requires : tie.Need-listed-requires Inv-loop μ-loop
-listed-requires c κs = search needs
+entry-requires : tie.Need-entry-requires Inv-loop μ-loop
+entry-requires c κs = search needs
+
+cast-cell : tie.Need-cast-cell Inv-loop μ-loop
+cast-cell c = search needs
 
 mul-cell : tie.Need-mul-cell Inv-loop μ-loop
 mul-cell c = search needs
@@ -38,7 +41,7 @@ loop-again : tie.Need-loop-again Inv-loop μ-loop
 loop-again c =
     let x = c .before .before .before .before .before .args in
     let v = c .before .before .loop in
-    (search needs, simp length-set (v .inv .1), fills-next 0 (word (x .ca .now)) (x .cell .now) (v .k) _ _ (v .cell) (sym (zero-add (v .k))) (search needs) (c .listed .ensures) (v .inv .2))
+    (search needs, simp length-set (v .inv .1), fills-next 0 (word (x .ca .now)) (x .cell .now) (v .k) _ _ (v .cell) (sym (zero-add (v .k))) (search needs) (c .entry .ensures) (v .inv .2))
 
 same-length : tie.Need-same-length Inv-loop μ-loop
 same-length c = c .before .loop .inv .1 ∙ sym (c .before .before .before .before .pre)
@@ -50,4 +53,4 @@ returns c =
     fills-all 0 (word (x .ca .now)) (x .cell .now) (v .k) 64 (v .cell) (v .inv .0) (search needs) (v .inv .2)
 
 pub put-allocation-spec : {M : Type 1} → statement M
-put-allocation-spec = tie.close (tie.spec Inv-loop μ-loop loop-holds listed-requires mul-cell slice-write-cell add-k loop-less loop-again same-length returns)
+put-allocation-spec = tie.close (tie.spec Inv-loop μ-loop loop-holds entry-requires cast-cell mul-cell slice-write-cell add-k loop-less loop-again same-length returns)

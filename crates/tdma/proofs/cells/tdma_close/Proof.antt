@@ -7,11 +7,11 @@ use Rattle.tdma.proofs.cells.tdma_close.Tie as tie
 close-requires : tie.Need-close-requires
 close-requires c κs = search needs
 
-changed-numbers-requires : tie.Need-changed-numbers-requires
-changed-numbers-requires c κs = search needs
+answer-numbers-requires : tie.Need-answer-numbers-requires
+answer-numbers-requires c κs = search needs
 
 returns : tie.Need-returns
-returns c = left-is (c .before .close .result) _ (c .changed-numbers .ensures) (c .before .close .ensures)
+returns c = left-is (c .before .close .result) _ (c .answer-numbers .ensures) (c .before .close .ensures)
 
 pub tdma-close-spec : {M : Type 1} → statement M
-tdma-close-spec = tie.close (tie.spec close-requires changed-numbers-requires returns)
+tdma-close-spec = tie.close (tie.spec close-requires answer-numbers-requires returns)

@@ -7,11 +7,11 @@ use Rattle.tdma.proofs.cells.tdma_open.Tie as tie
 open-requires : tie.Need-open-requires
 open-requires c κs = search needs
 
-changed-numbers-requires : tie.Need-changed-numbers-requires
-changed-numbers-requires c κs = search needs
+answer-numbers-requires : tie.Need-answer-numbers-requires
+answer-numbers-requires c κs = search needs
 
 returns : tie.Need-returns
-returns c = left-is (c .before .open .result) _ (c .changed-numbers .ensures) (c .before .open .ensures)
+returns c = left-is (c .before .open .result) _ (c .answer-numbers .ensures) (c .before .open .ensures)
 
 pub tdma-open-spec : {M : Type 1} → statement M
-tdma-open-spec = tie.close (tie.spec open-requires changed-numbers-requires returns)
+tdma-open-spec = tie.close (tie.spec open-requires answer-numbers-requires returns)

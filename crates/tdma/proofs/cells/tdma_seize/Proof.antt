@@ -7,11 +7,11 @@ use Rattle.tdma.proofs.cells.tdma_seize.Tie as tie
 seize-requires : tie.Need-seize-requires
 seize-requires c κs = search needs
 
-changed-numbers-requires : tie.Need-changed-numbers-requires
-changed-numbers-requires c κs = search needs
+answer-numbers-requires : tie.Need-answer-numbers-requires
+answer-numbers-requires c κs = search needs
 
 returns : tie.Need-returns
-returns c = left-is (c .before .seize .result) _ (c .changed-numbers .ensures) (c .before .seize .ensures)
+returns c = left-is (c .before .seize .result) _ (c .answer-numbers .ensures) (c .before .seize .ensures)
 
 pub tdma-seize-spec : {M : Type 1} → statement M
-tdma-seize-spec = tie.close (tie.spec seize-requires changed-numbers-requires returns)
+tdma-seize-spec = tie.close (tie.spec seize-requires answer-numbers-requires returns)

@@ -7,11 +7,11 @@ use Rattle.tdma.proofs.cells.tdma_start.Tie as tie
 start-requires : tie.Need-start-requires
 start-requires c κs = search needs
 
-changed-numbers-requires : tie.Need-changed-numbers-requires
-changed-numbers-requires c κs = search needs
+answer-numbers-requires : tie.Need-answer-numbers-requires
+answer-numbers-requires c κs = search needs
 
 returns : tie.Need-returns
-returns c = left-is (c .before .start .result) _ (c .changed-numbers .ensures) (c .before .start .ensures)
+returns c = left-is (c .before .start .result) _ (c .answer-numbers .ensures) (c .before .start .ensures)
 
 pub tdma-start-spec : {M : Type 1} → statement M
-tdma-start-spec = tie.close (tie.spec start-requires changed-numbers-requires returns)
+tdma-start-spec = tie.close (tie.spec start-requires answer-numbers-requires returns)

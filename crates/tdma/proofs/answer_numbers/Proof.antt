@@ -1,23 +1,20 @@
--- `answer_numbers` meets its contract, case by case. Assumes nothing.
+-- `answer_numbers` meets its contract: case by case. Assumes nothing.
 use Prim.Native.Nat.{ℕ}
 use mathlib.Core.Path.{_≡_, refl, sym, ap, _∙_}
-use mathlib.Core.List.{[]}
-use borrow.Author.Needs.{needs}
-use Rattle.answers.specs.Refusals.{refusalOf}
+use Rattle.answers.specs.Refusals.{refusalOf, refusalIn}
 use Rattle.answers.specs.declared.Refusal.{Refusal}
 use Rattle.answers.specs.declared.Answer.{Answer}
 use Rattle.answers.specs.declared.Answer.the-variants.{Refused}
-use Rattle.bursts.specs.Bursts.{wrote}
-use Rattle.tdma.specs.declared.buffers.TdmaBurst.{TdmaBurst}
-use Rattle.tdma.specs.Numbers.{valueOf}
-use Rattle.tdma.specs.Buffers.{burstNumbers}
-use Rattle.tdma.proofs.buffers.answer_numbers.Statement.{statement}
-use Rattle.tdma.proofs.buffers.answer_numbers.Tie as tie
+use Rattle.tdma.specs.declared.TdmaAnswer.{TdmaAnswer}
+use Rattle.tdma.specs.Numbers.{valueOf, answerNumbers}
+use borrow.Author.Needs.{needs}
+use Rattle.tdma.proofs.answer_numbers.Statement.{statement}
+use Rattle.tdma.proofs.answer_numbers.Tie as tie
 
-numbers : Answer → TdmaBurst
-numbers a = burstNumbers (wrote a [])
+numbers : Answer → TdmaAnswer
+numbers a = answerNumbers (refusalIn a)
 
-refused-numbers : (e : Refusal) {n v : ℕ} → n ≡ refusalOf e .number → v ≡ valueOf (refusalOf e) → record { refusal = n; bit = v } ≡ numbers (Refused e)
+refused-numbers : (e : Refusal) {n v : ℕ} → n ≡ refusalOf e .number → v ≡ valueOf (refusalOf e) → record { refusal = n; value = v } ≡ numbers (Refused e)
 unfolding numbers
 refused-numbers e p q = rw (p, q) refl
 
@@ -39,9 +36,7 @@ returns c = ap numbers (sym (c .enum-told .given .1))
 
 returns-2 : tie.Need-returns-2
 unfolding numbers
-returns-2 c =
-    let k = c .before .before .before in
-    refused-numbers (k .a .given .0 .0) (c .before .refusal-number .ensures) (c .refusal-value .ensures) ∙ ap numbers (sym (k .a .given .1))
+returns-2 c = refused-numbers (c .before .before .before .a .given .0 .0) (c .before .refusal-number .ensures) (c .refusal-value .ensures) ∙ ap numbers (sym (c .before .before .before .a .given .1))
 
 pub answer-numbers-spec : {M : Type 1} → statement M
 answer-numbers-spec = tie.close (tie.spec enum-told enum-known-a refusal-number-requires refusal-value-requires returns returns-2)
