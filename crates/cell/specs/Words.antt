@@ -25,7 +25,7 @@ unfoldable pub cellOf : List ℕ → Cell
 cellOf words =
     record { ca = tabulate 64 (word words); length = word words 64; c0 = word words 65; bcc = word words 66; ag = word words 67; p = word words 68; lines = tabulate lineCount (lineIn words) }
 
--- the storage of a cell: that many words of 32 bits
+-- the storage of a cell: 1,029 words of 32 bits
 pub record Stored (words : List ℕ) : Type 0 where
   pub count : length words ≡ 1029
   pub fit : (k : ℕ) → word words k < 2 ^ 32
