@@ -3,7 +3,7 @@ use Prim.Native.Nat.{ℕ, zero, suc, _+_, _-_, _/_, _%_, _≤_}
 use mathlib.Core.Path.{_≡_}
 use mathlib.Core.Bool.{cond}
 use mathlib.Core.List.{List, [], _∷_, _++_}
-use lib.Dec.{ltb}
+use lib.Dec.{eqb, ltb}
 use lib.ListN.{length, take, replicate}
 
 -- the decimal digits of a number of at most k digits, first digit highest, with no zeros in front
@@ -26,6 +26,10 @@ left width t = t ++ replicate (width - length t) 32
 unfoldable pub spaced : List ℕ → List ℕ
 spaced [] = []
 spaced (n ∷ ns) = 32 ∷ decimal n ++ spaced ns
+
+-- "BITS is a word of the characters 0 and 1"
+abbrev pub bitCharacter : ℕ → ℕ
+bitCharacter bit = cond (eqb bit 0) 48 49
 
 -- after the bytes before `at` a text was written, which ends at `end`; what has no room is left out
 pub record Appended (before : List ℕ) (at : ℕ) (after : List ℕ) (end : ℕ) (text : List ℕ) : Type 0 where

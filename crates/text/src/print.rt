@@ -2,8 +2,9 @@
 use crate::least;
 ghost use Prim.Native.Nat.{_-_};
 ghost use mathlib.Core.Path.{_≡_};
+ghost use mathlib.Core.List.{map};
 ghost use lib.ListN.{replicate};
-ghost use Rattle.text.specs.Print.{Appended, decimal, right, left, spaced};
+ghost use Rattle.text.specs.Print.{Appended, decimal, right, left, spaced, bitCharacter};
 
 pub fn put(out: &mut [u8], at: usize, text: &[u8]) -> usize
     ensures { λ r. ⌜ Appended (now (out .entry)) at (now (out .exit)) r (now (text .entry)) ⌝ }
@@ -88,4 +89,28 @@ pub fn put_numbers(out: &mut [u8], at: usize, list: &[u32]) -> usize
         i += 1;
     }
     end
+}
+
+// A bit as a character.
+fn bit_character(bit: u8) -> u8
+    ensures { λ r. ⌜ r ≡ bitCharacter bit ⌝ }
+{
+    if bit == 0 {
+        return 48;
+    }
+    49
+}
+
+// Bits, a character for each.
+pub fn put_bits(out: &mut [u8], at: usize, bits: &[u8]) -> usize
+    ensures { λ r. ⌜ Appended (now (out .entry)) at (now (out .exit)) r (map bitCharacter (now (bits .entry))) ⌝ }
+{
+    let start = least(at, out.len());
+    let n = least(bits.len(), out.len() - start);
+    let mut i = 0;
+    while i < n {
+        out[start + i] = bit_character(bits[i]);
+        i += 1;
+    }
+    start + n
 }
