@@ -1,0 +1,215 @@
+// What each answer of the program `schedule` reads like, written to a lent buffer from a place on; the result is where it ends.
+use tdma::TdmaAnswer;
+use tdma::TdmaMap;
+use tdma::TdmaSplit;
+use tdma::cells::TdmaLine;
+use tdma::cells::TdmaWho;
+use text::print::put;
+use text::print::put_bits;
+use text::print::put_number;
+use text::print::put_numbers;
+ghost use mathlib.Core.Path.{_≡_};
+ghost use Rattle.text.specs.Print.{Appended};
+ghost use Rattle.replies.specs.Replies.{hasValue, refusedText, numbersText, splitText, channelText, contentText, mapText, slotText, lineText, whoText, bitsText, reasonText, errorText};
+
+fn has_value(refusal: u32) -> bool
+    ensures { λ r. ⌜ r ≡ hasValue refusal ⌝ }
+{
+    (refusal == 9) | (refusal == 15)
+}
+
+// A refusal, and the value that comes with 9 and 15.
+fn refused(out: &mut [u8], at: usize, refusal: u32, value: u32) -> usize
+    ensures { λ r. ⌜ Appended (now (out .entry)) at (now (out .exit)) r (refusedText refusal value) ⌝ }
+{
+    let end = put(out, at, b"refused");
+    if has_value(refusal) {
+        let end = put_numbers(out, end, &[refusal, value]);
+        return put(out, end, b"\n");
+    }
+    let end = put_numbers(out, end, &[refusal]);
+    put(out, end, b"\n")
+}
+
+// An answer of numbers, none to any, or a refusal.
+pub fn numbers(out: &mut [u8], at: usize, refusal: u32, value: u32, list: &[u32]) -> usize
+    ensures { λ r. ⌜ Appended (now (out .entry)) at (now (out .exit)) r (numbersText refusal value (now (list .entry))) ⌝ }
+{
+    if refusal != 0 {
+        return refused(out, at, refusal, value);
+    }
+    let end = put(out, at, b"ok");
+    let end = put_numbers(out, end, list);
+    put(out, end, b"\n")
+}
+
+pub fn split(out: &mut [u8], at: usize, a: TdmaSplit) -> usize
+    ensures { λ r. ⌜ Appended (now (out .entry)) at (now (out .exit)) r (splitText a) ⌝ }
+{
+    if a.refusal != 0 {
+        return refused(out, at, a.refusal, 0);
+    }
+    let end = put(out, at, b"ok");
+    let end = put_numbers(out, end, &[a.t1, a.t2, a.t3]);
+    if a.given != 1 {
+        return put(out, end, b" -\n");
+    }
+    let end = put_numbers(out, end, &[a.prime]);
+    put(out, end, b"\n")
+}
+
+// The name of a channel; none has another number.
+fn channel(out: &mut [u8], at: usize, number: u32) -> usize
+    ensures { λ r. ⌜ Appended (now (out .entry)) at (now (out .exit)) r (channelText number) ⌝ }
+{
+    if number == 1 {
+        return put(out, at, b"TCH");
+    }
+    if number == 2 {
+        return put(out, at, b"SACCH");
+    }
+    if number == 3 {
+        return put(out, at, b"SDCCH");
+    }
+    if number == 4 {
+        return put(out, at, b"FCCH");
+    }
+    if number == 5 {
+        return put(out, at, b"SCH");
+    }
+    if number == 6 {
+        return put(out, at, b"BCCH");
+    }
+    if number == 7 {
+        return put(out, at, b"CCCH");
+    }
+    if number == 8 {
+        return put(out, at, b"RACH");
+    }
+    put(out, at, b"")
+}
+
+// Idle, or a channel with its numbers, and with the second block and place where there are two.
+fn content(
+    out: &mut [u8],
+    at: usize,
+    number: u32,
+    first: &[u32],
+    blocks: u32,
+    second: &[u32],
+) -> usize
+    ensures { λ r. ⌜ Appended (now (out .entry)) at (now (out .exit)) r (contentText number (now (first .entry)) blocks (now (second .entry))) ⌝ }
+{
+    if number == 0 {
+        return put(out, at, b" idle\n");
+    }
+    let end = put(out, at, b" ");
+    let end = channel(out, end, number);
+    let end = put_numbers(out, end, first);
+    if blocks != 2 {
+        return put(out, end, b"\n");
+    }
+    let end = put_numbers(out, end, second);
+    put(out, end, b"\n")
+}
+
+pub fn map(out: &mut [u8], at: usize, a: TdmaMap) -> usize
+    ensures { λ r. ⌜ Appended (now (out .entry)) at (now (out .exit)) r (mapText a) ⌝ }
+{
+    if a.refusal != 0 {
+        return refused(out, at, a.refusal as u32, 0);
+    }
+    let end = put(out, at, b"ok");
+    let first = [a.subchannel as u32, a.block as u32, a.place as u32];
+    let second = [a.block2 as u32, a.place2 as u32];
+    content(out, end, a.channel as u32, &first, a.blocks as u32, &second)
+}
+
+// What a line has on the air: the ARFCN, and idle or the channel.
+fn slot(out: &mut [u8], at: usize, a: TdmaLine) -> usize
+    ensures { λ r. ⌜ Appended (now (out .entry)) at (now (out .exit)) r (slotText a) ⌝ }
+{
+    let end = put_numbers(out, at, &[a.arfcn]);
+    let first = [a.subchannel, a.owner, a.block, a.place];
+    let second = [a.block2, a.place2];
+    content(out, end, a.channel, &first, a.blocks, &second)
+}
+
+pub fn line(out: &mut [u8], at: usize, a: TdmaLine) -> usize
+    ensures { λ r. ⌜ Appended (now (out .entry)) at (now (out .exit)) r (lineText a) ⌝ }
+{
+    if a.refusal != 0 {
+        return refused(out, at, a.refusal, 0);
+    }
+    let end = put(out, at, b"ok");
+    slot(out, end, a)
+}
+
+pub fn who(out: &mut [u8], at: usize, a: TdmaWho) -> usize
+    ensures { λ r. ⌜ Appended (now (out .entry)) at (now (out .exit)) r (whoText a) ⌝ }
+{
+    if a.refusal != 0 {
+        return refused(out, at, a.refusal, 0);
+    }
+    if a.found == 0 {
+        return put(out, at, b"ok nobody\n");
+    }
+    let end = put(out, at, b"ok");
+    let end = put_numbers(out, end, &[a.line]);
+    let answer = a.answer;
+    slot(out, end, answer)
+}
+
+// The bits of a burst or of its payload, or a refusal.
+pub fn bits(out: &mut [u8], at: usize, a: TdmaAnswer, bits: &[u8]) -> usize
+    ensures { λ r. ⌜ Appended (now (out .entry)) at (now (out .exit)) r (bitsText a (now (bits .entry))) ⌝ }
+{
+    if a.refusal != 0 {
+        return refused(out, at, a.refusal, a.value);
+    }
+    let end = put(out, at, b"ok ");
+    let end = put_bits(out, end, bits);
+    put(out, end, b"\n")
+}
+
+// Why a line is no command; none has another number.
+fn reason(out: &mut [u8], at: usize, number: u32) -> usize
+    ensures { λ r. ⌜ Appended (now (out .entry)) at (now (out .exit)) r (reasonText number) ⌝ }
+{
+    if number == 1 {
+        return put(out, at, b"unknown command");
+    }
+    if number == 2 {
+        return put(out, at, b"unknown burst");
+    }
+    if number == 3 {
+        return put(out, at, b"too few words");
+    }
+    if number == 4 {
+        return put(out, at, b"too many words");
+    }
+    if number == 5 {
+        return put(out, at, b"not a number");
+    }
+    if number == 6 {
+        return put(out, at, b"number too large");
+    }
+    if number == 7 {
+        return put(out, at, b"count too large");
+    }
+    if number == 8 {
+        return put(out, at, b"line too long");
+    }
+    put(out, at, b"")
+}
+
+// The answer to a line that is no command.
+pub fn error(out: &mut [u8], at: usize, number: u64, why: u32) -> usize
+    ensures { λ r. ⌜ Appended (now (out .entry)) at (now (out .exit)) r (errorText number why) ⌝ }
+{
+    let end = put(out, at, b"error ");
+    let end = put_number(out, end, number);
+    let end = put(out, end, b" ");
+    let end = reason(out, end, why);
+    put(out, end, b"\n")
+}
