@@ -1,0 +1,68 @@
+-- `run_bursts::take_sync` is safe. Assumes nothing.
+use native.Mathlib.Omega.{arith}
+use lib.ListN.{length-take}
+use borrow.Author.Needs.{needs}
+use Rattle.schedule.proofs.run_bursts.take_sync.Statement.{statement}
+use Rattle.schedule.proofs.run_bursts.take_sync.Tie as tie
+
+last-figures-requires : tie.Need-last-figures-requires
+last-figures-requires c κs = search needs
+
+error-requires : tie.Need-error-requires
+error-requires c κs = search needs
+
+same-length : tie.Need-same-length
+same-length c = search needs
+
+same-length-2 : tie.Need-same-length-2
+same-length-2 c = search needs
+
+returns : tie.Need-returns
+returns c = search needs
+
+slice-reshare-prefix-tdma-take-synchronization :
+    tie.Need-slice-reshare-prefix-tdma-take-synchronization
+slice-reshare-prefix-tdma-take-synchronization c = search needs
+
+slice-aggregate-tdma-take-synchronization : tie.Need-slice-aggregate-tdma-take-synchronization
+slice-aggregate-tdma-take-synchronization c = simp length-take (omega arith)
+
+slice-aggregate-tdma-take-synchronization-2 : tie.Need-slice-aggregate-tdma-take-synchronization-2
+slice-aggregate-tdma-take-synchronization-2 c = search needs
+
+tdma-take-synchronization-requires : tie.Need-tdma-take-synchronization-requires
+tdma-take-synchronization-requires c κs = search needs
+
+slice-aggregate-bits : tie.Need-slice-aggregate-bits
+slice-aggregate-bits c = search needs
+
+bits-requires : tie.Need-bits-requires
+bits-requires c κs = search needs
+
+same-length-3 : tie.Need-same-length-3
+same-length-3 c = search needs
+
+same-length-4 : tie.Need-same-length-4
+same-length-4 c = search needs
+
+returns-2 : tie.Need-returns-2
+returns-2 c = search needs
+
+pub take-sync-spec : {M : Type 1} → statement M
+take-sync-spec =
+    tie.close
+    (tie.spec
+    last-figures-requires
+    error-requires
+    same-length
+    same-length-2
+    returns
+    slice-reshare-prefix-tdma-take-synchronization
+    slice-aggregate-tdma-take-synchronization
+    slice-aggregate-tdma-take-synchronization-2
+    tdma-take-synchronization-requires
+    slice-aggregate-bits
+    bits-requires
+    same-length-3
+    same-length-4
+    returns-2)
