@@ -11,6 +11,7 @@ pub const CALLS: usize = 1_000;
 /// How many cells they are spread over: few, so that no contender waits for memory.
 const CELLS: usize = 2;
 
+/// So many values that live as long as the program.
 pub fn leak<T>(count: usize, mut draw: impl FnMut() -> T) -> &'static [T] {
     (0..count).map(|_| draw()).collect::<Vec<T>>().leak()
 }

@@ -1,5 +1,5 @@
 //! Nanoseconds for each call of the library, beside the second implementation of `tests/`,
-//! libosmocore, plain tables and plain copies, on the same random inputs in one run.
+//! libosmocore, plain tables, plain arrays and plain copies, on the same random inputs in one run.
 
 mod air;
 mod bare;
@@ -23,9 +23,9 @@ use timing::{contender, Line, Table};
 /// How many inputs a pass has.
 const INPUTS: usize = 20_000;
 
-/// Inputs that live as long as the program.
-fn inputs<T>(mut draw: impl FnMut() -> T) -> &'static [T] {
-    (0..INPUTS).map(|_| draw()).collect::<Vec<T>>().leak()
+/// The inputs of a pass.
+fn inputs<T>(draw: impl FnMut() -> T) -> &'static [T] {
+    cells::leak(INPUTS, draw)
 }
 
 fn clock_table(random: &mut Random) -> Table {

@@ -1,4 +1,4 @@
-/* Odd input: the largest values, lengths of 0 to 200, and null pointers. */
+/* Odd input: the largest values, lengths of 0 to 200, null pointers, and cells of any content. */
 #ifndef ODD_H
 #define ODD_H
 

@@ -33,7 +33,7 @@ fn hopping() {
     }
 }
 
-/// A burst that belongs to block 0 or to the one named.
+/// A burst of one block.
 fn burst(channel: Channel, subchannel: u8, block: u8, place: u8) -> MapAnswer {
     let channel = channel as u8;
     MapAnswer {

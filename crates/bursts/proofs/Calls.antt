@@ -9,7 +9,7 @@ use borrow.Author.Tests.{eq-eqb, eqb-true, not-false}
 use Rattle.answers.specs.Outcome.{Refused, alone}
 use Rattle.answers.proofs.Decide.{Holds, None, stops, passes}
 use Rattle.bursts.specs.Rows.{Row, room, built, taken}
-use Rattle.bursts.specs.Bursts.{Written, written, byteAboveOne, malformed, fixedBit, buildCauses, takeCauses, buildOf, takeOf}
+use Rattle.bursts.specs.Bursts.{Written, written, byteAboveOne, malformed, buildCauses, takeCauses, buildOf, takeOf}
 use Rattle.bursts.specs.Claims.{done}
 use Rattle.bursts.specs.Helpers.{firstWrong}
 use Rattle.bursts.proofs.Accepted.{no-cause-accepts}

@@ -8,12 +8,12 @@ use mathlib.Core.Option.{Option, none, some}
 use native.Mathlib.Nat.{zero-add, suc-add, not-suc-le-zero, le-of-suc-le-suc}
 use native.Mathlib.Omega.{arith}
 use borrow.Author.Tests.{eq-eqb, ne-eqb}
-use lib.ListN.{length, take, drop, getD, replicate, length-append, length-replicate}
+use lib.ListN.{length, take, drop, getD, replicate, length-replicate}
 use Rattle.bursts.specs.declared.fields.Field.{Field}
 use Rattle.bursts.specs.declared.fields.Field.the-variants as Field
 use Rattle.bursts.specs.Layouts.{bits}
 use Rattle.bursts.specs.Rows.{Row, room, built, taken, isOther}
-use Rattle.bursts.specs.Helpers.{width, payloadOf, fieldRow, fieldsRow, firstWrong}
+use Rattle.bursts.specs.Helpers.{width, payloadOf, fieldRow, firstWrong}
 use Rattle.bursts.proofs.Bits.{length-bits}
 
 -- ---- fixed bits, and room for payload bits

@@ -8,7 +8,7 @@ use native.Mathlib.Omega.{arith}
 use lib.ListN.{length, take, drop, replicate, length-drop}
 use lib.Seq.{drop-drop}
 use Rattle.bursts.specs.Layouts as layouts
-use Rattle.bursts.specs.Layouts.{bits, training, normal, synchronization, access, Payload}
+use Rattle.bursts.specs.Layouts.{bits, training, normal, synchronization, access}
 use Rattle.bursts.specs.Rows.{Row, rowOf, built}
 use Rattle.bursts.specs.Claims.{Places}
 

@@ -2,8 +2,8 @@
 ghost use mathlib.Core.Path.{_≡_};
 ghost use mathlib.Core.List.{map};
 ghost use mathlib.Core.Option.{some};
-ghost use Prim.Native.Nat.{_+_, _-_, _/_, _%_, _^_, _≤_, _<_};
-ghost use lib.ListN.{length, take, drop};
+ghost use Prim.Native.Nat.{_/_, _%_, _^_};
+ghost use lib.ListN.{length};
 ghost use Rattle.bursts.specs.Layouts.{bits};
 ghost use Rattle.bursts.specs.Rows.{built, taken};
 ghost use Rattle.bursts.specs.Bursts.{byteAboveOne};

@@ -9,7 +9,6 @@ use layout::build;
 use layout::take;
 ghost use mathlib.Core.Path.{_≡_};
 ghost use Prim.Native.Nat.{_<_};
-ghost use lib.ListN.{length};
 ghost use Rattle.bursts.specs.Layouts.{normal};
 ghost use Rattle.bursts.specs.Rows.{rowOf};
 ghost use Rattle.bursts.specs.Bursts.{wrote, buildNormalOf, takeNormalOf, buildSynchronizationOf, takeSynchronizationOf, buildAccessOf, takeAccessOf, buildFrequencyCorrectionOf, buildDummyOf};

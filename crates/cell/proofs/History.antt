@@ -13,6 +13,9 @@ use Rattle.cell.specs.State.{LineState, Values, ownerRoom, lineWith}
 use Rattle.cell.specs.History.{Call, opens, closes, Made, lastAccepted, opensOrCloses, valuesIn, openedWith, since, seizesOrReleases, ownerIn, heldBy, lineOr}
 use Rattle.cell.proofs.Tabulate.{tabulate-same}
 
+pub none-is-not-some : {A : Type 0} {x : A} → _≡_ {A = Option A} none (some x) → ⊥
+none-is-not-some e = let z : _≡_ {A = ℕ} 0 1 = cc in omega arith
+
 -- the call, accepted
 abbrev pub wasAccepted : Call → Made
 wasAccepted x = record { call = x; accepted = true }

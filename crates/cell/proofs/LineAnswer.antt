@@ -20,12 +20,12 @@ use Rattle.frame_map.specs.Rows.{standing}
 use Rattle.frame_map.proofs.Range.{accepted-map}
 use Rattle.frame_map.proofs.Stood.{Stood, standing-stood}
 use Rattle.cell.specs.State.{Cell, LineState, Values, ownerRoom, lineWith, isOpen, lineAt, ownerAt, allocation}
-use Rattle.cell.specs.OnAir.{Slot, entryAt, inFrame, ownerOf, slotOf, lineOf}
+use Rattle.cell.specs.OnAir.{entryAt, inFrame, ownerOf, slotOf, lineOf}
 use Rattle.cell.specs.History.{Made, openedWith, heldBy, cellFrom}
 use Rattle.cell.specs.CollisionFree.{slotFrom}
 use Rattle.cell.proofs.Tabulate.{tabulate-at}
 use Rattle.cell.proofs.SubchannelRows.{row-subchannel}
-use Rattle.cell.proofs.Lines.{has-room}
+use Rattle.cell.proofs.Lines.{has-room, same-slot}
 use Rattle.cell.proofs.Sound.{Allowed, allowed-within, allowed-maio, allowed-line, allowed-combination, allowed-tn, allowed-hsn, allowed-open, Sound, open-line}
 
 module _ (first : Cell) (n : ℕ) (v : Values) (a : Allowed first n v) (fn : ℕ) (hf : fn < hyperframe) where
@@ -69,16 +69,12 @@ module _ (first : Cell) (n : ℕ) (v : Values) (a : Allowed first n v) (fn : ℕ
                 below : Stood (rowsOf (v .combination) (v .tn) d) fn x → x .subchannel < ownerRoom
                 below w = subst (λ (y : Standing). y .subchannel < ownerRoom) (w .tells) (let l = row-subchannel (v .tn) (allowed-tn first n v a) d hd (v .combination) (w .by) (w .member) (ap (λ (y : Standing). isCommon (y .kind)) (w .tells) ∙ e) in let m = has-room (v .combination) in omega (arith, l, m))
 
-slot-same : {a b : ℕ} {xs ys : List Standing} {o p : ℕ} → a ≡ b → xs ≡ ys → o ≡ p
-    → _≡_ {A = Slot} (record { arfcn = a; standing = xs; owner = o }) (record { arfcn = b; standing = ys; owner = p })
-slot-same e f g = rw (e, f, g) refl
-
 module _ (first : Cell) (past : List Made) (sound : Sound first past) (n : ℕ) (v : Values) (e : openedWith past n ≡ some v) (fn : ℕ) (hf : fn < hyperframe) (d : ℕ) (hd : d < 2) where
   slot-is : slotOf (cellFrom first past) (lineWith v (heldBy past n)) fn d ≡ slotFrom first past n v fn d
   unfolding slotOf cellFrom there
   slot-is =
       let a = sound .allowed n v e in
-      slot-same (arfcn-is first n v a fn hf) (map-is first n v a fn hf d hd)
+      same-slot (arfcn-is first n v a fn hf) (map-is first n v a fn hf d hd)
       (ap (ownerOf (ownerAt (lineWith v (heldBy past n)))) (map-is first n v a fn hf d hd) ∙ owner-is first n v a fn hf d hd (heldBy past n))
 
   -- `line` of an open line

@@ -17,23 +17,21 @@ use Rattle.cell.specs.State.{Cell, LineState, Values, lineCount, lineWit
 use Rattle.cell.specs.Calls.{step, anyLine, hasCombination, isCommonCombination, isCommonLine, standsIn, c0Alone, misplaced, needed, openCauses, openOf, closeCauses, closeOf, seizeCauses, seizeOf, releaseCauses, releaseOf}
 use Rattle.cell.specs.History.{Call, opens, closes, seizes, releases, Made, openedWith, lastAccepted, heldBy, cellFrom}
 use Rattle.cell.specs.CollisionFree.{calling, made}
-use Rattle.cell.proofs.History.{wasAccepted, wasRefused, other-opened, open-after-open, open-after-close, still-opened}
+use Rattle.cell.proofs.History.{none-is-not-some, wasAccepted, wasRefused, other-opened, open-after-open, open-after-close, still-opened}
 use Rattle.cell.proofs.Sound.{allowed-line, allowed-open, Sound, open-line, is-opened}
 
 -- ---- the numbers 4, 5 and 6
 
-pub common-cases : (k : ℕ) → isCommonCombination k ≡ true → (k ≡ 4) ⊎ ((k ≡ 5) ⊎ (k ≡ 6))
-common-cases k h = go (eqb k 4) (eqb k 5) refl refl h
+one-of-three : (n a b c : ℕ) → (eqb n a || eqb n b || eqb n c) ≡ true → (n ≡ a) ⊎ ((n ≡ b) ⊎ (n ≡ c))
+one-of-three n a b c h = go (eqb n a) (eqb n b) refl refl h
   where
-    go : (a b : Bool) → eqb k 4 ≡ a → eqb k 5 ≡ b → (a || b || eqb k 6) ≡ true → (k ≡ 4) ⊎ ((k ≡ 5) ⊎ (k ≡ 6))
-    go true b p q e = inl (eqb-true k 4 p)
-    go false true p q e = inr (inl (eqb-true k 5 q))
-    go false false p q e = inr (inr (eqb-true k 6 e))
+    go : (s t : Bool) → eqb n a ≡ s → eqb n b ≡ t → (s || t || eqb n c) ≡ true → (n ≡ a) ⊎ ((n ≡ b) ⊎ (n ≡ c))
+    go true t p q e = inl (eqb-true n a p)
+    go false true p q e = inr (inl (eqb-true n b q))
+    go false false p q e = inr (inr (eqb-true n c e))
 
-timeslot-of : (tn : ℕ) (a b : Bool) → eqb tn 2 ≡ a → eqb tn 4 ≡ b → (a || b || eqb tn 6) ≡ true → (tn ≡ 2) ⊎ ((tn ≡ 4) ⊎ (tn ≡ 6))
-timeslot-of tn true b p q e = inl (eqb-true _ _ p)
-timeslot-of tn false true p q e = inr (inl (eqb-true _ _ q))
-timeslot-of tn false false p q e = inr (inr (eqb-true _ _ e))
+pub common-cases : (k : ℕ) → isCommonCombination k ≡ true → (k ≡ 4) ⊎ ((k ≡ 5) ⊎ (k ≡ 6))
+common-cases k h = one-of-three k 4 5 6 h
 
 pub four-common : (k : ℕ) → k ≡ 4 → isCommonCombination k ≡ true
 four-common k e = subst (λ (x : ℕ). isCommonCombination x ≡ true) (sym e) refl
@@ -72,10 +70,8 @@ pub record Placed (first : Cell) (past : List Made) : Type 0 where
 -- nothing is open before the first call
 pub placed-first : (first : Cell) → Placed first []
 unfolding openedWith lastAccepted
-placed-first first = record { in-place = λ n v e h. absurd (nothing v e); lower = λ n v e h. absurd (nothing v e); alone = λ n m v w e h f g. absurd (nothing v e) }
-  where
-    nothing : (v : Values) → _≡_ {A = Option Values} none (some v) → ⊥
-    nothing v e = let z : _≡_ {A = ℕ} 0 1 = cc in omega arith
+placed-first first =
+    record { in-place = λ n v e h. absurd (none-is-not-some e); lower = λ n v e h. absurd (none-is-not-some e); alone = λ n m v w e h f g. absurd (none-is-not-some e) }
 
 module _ (first : Cell) (past : List Made) (sound : Sound first past) where
   abbrev before : Cell
@@ -122,7 +118,7 @@ module _ (first : Cell) (past : List Made) (sound : Sound first past) where
     first-alone k m w e h = none-such isCommonLine (and-rest (eqb (v .combination) 4 || eqb (v .combination) 5) _ (is-first k) (free .1 .1 .1 .1 .0)) m w e h
 
     six-place : v .combination ≡ 6 → (v .tn ≡ 2) ⊎ ((v .tn ≡ 4) ⊎ (v .tn ≡ 6))
-    six-place k = timeslot-of (v .tn) (eqb (v .tn) 2) (eqb (v .tn) 4) refl refl (not-false _ (and-rest (eqb (v .combination) 6) _ (eq-eqb _ _ k) (free .1 .0)))
+    six-place k = one-of-three (v .tn) 2 4 6 (not-false _ (and-rest (eqb (v .combination) 6) _ (eq-eqb _ _ k) (free .1 .0)))
 
     place-of : isCommonCombination (v .combination) ≡ true → Place v
     place-of h = ⊎-elim (λ k. inl (inl k, first-place (inl k))) (λ o. ⊎-elim (λ k. inl (inr k, first-place (inr k))) six o) (common-cases _ h)

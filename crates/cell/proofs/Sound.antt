@@ -22,7 +22,7 @@ use Rattle.cell.specs.State.{Cell, LineState, Values, lineCount, lineWit
 use Rattle.cell.specs.Calls.{Step, step, openRange, noAllocation, noMaio, physical, linePhysical, inTheWay, openCauses, openOf, closeCauses, closeOf, seizeCauses, seizeOf, releaseCauses, releaseOf}
 use Rattle.cell.specs.History.{Call, opens, closes, seizes, releases, Made, openedWith, lastAccepted, heldBy, lineOr, cellFrom}
 use Rattle.cell.specs.CollisionFree.{calling, made}
-use Rattle.cell.proofs.History.{wasAccepted, wasRefused, open-after-open, open-after-close, still-opened}
+use Rattle.cell.proofs.History.{none-is-not-some, wasAccepted, wasRefused, open-after-open, open-after-close, still-opened}
 use Rattle.cell.proofs.AsListed.{line-listed, refused-listed, opened-listed, closed-listed, owner-listed}
 
 -- the numbers of an open line are in range, its mask fits CA and its MAIO is below N
@@ -42,10 +42,7 @@ pub record Sound (first : Cell) (past : List Made) : Type 0 where
 -- nothing is open before the first call
 pub sound-first : (first : Cell) → Sound first []
 unfolding openedWith lastAccepted
-sound-first first = record { allowed = λ n v e. absurd (nothing v e); clear = λ n m v w d e f. absurd (nothing v e) }
-  where
-    nothing : (v : Values) → _≡_ {A = Option Values} none (some v) → ⊥
-    nothing v e = let z : _≡_ {A = ℕ} 0 1 = cc in omega arith
+sound-first first = record { allowed = λ n v e. absurd (none-is-not-some e); clear = λ n m v w d e f. absurd (none-is-not-some e) }
 
 -- ---- what an open line has
 

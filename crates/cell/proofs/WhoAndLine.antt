@@ -21,6 +21,7 @@ use Rattle.cell.specs.OnAir.{Slot, arfcnIn, slotOf, lineCauses, lineOf}
 use Rattle.cell.specs.Who.{lineIsOn, Match, matchAt, whoCauses, matchOf, whoOf, lineFound}
 use Rattle.cell.specs.History.{Made, openedWith, cellFrom}
 use Rattle.cell.specs.Reached.{NoneShown, WhoAgrees, WhoAndLine}
+use Rattle.cell.proofs.History.{none-is-not-some}
 use Rattle.cell.proofs.Begun.{Begun}
 use Rattle.cell.proofs.Sound.{Sound, allowed-tn, allowed-within, allowed-maio, open-line, is-opened}
 use Rattle.cell.proofs.LineAnswer.{arfcn-is}
@@ -87,13 +88,10 @@ module _ (c : Cell) (tn arfcn fn : ℕ) where
   pub who-shown : (direction : ℕ) (f : Match) → whoOf c tn arfcn fn direction ≡ accepted (some f)
       → (lineOf c (f .line) fn direction ≡ accepted (f .slot)) × (lineAt c (f .line) .tn ≡ tn) × (f .slot .arfcn ≡ arfcn)
   unfolding whoOf slotOf
-  who-shown direction f e = ⊎-elim somebody (λ g. absurd (nothing (sym (none-found direction g) ∙ given .0))) (first-or-none test lineCount)
+  who-shown direction f e = ⊎-elim somebody (λ g. absurd (none-is-not-some (sym (none-found direction g) ∙ given .0))) (first-or-none test lineCount)
     where
       given : (matchOf c tn arfcn fn direction ≡ some f) × NoCause (whoCauses tn arfcn fn direction)
       given = accepted-has-none _ (whoCauses tn arfcn fn direction) (some f) e
-
-      nothing : _≡_ {A = Option Match} none (some f) → ⊥
-      nothing z = let q : _≡_ {A = ℕ} 0 1 = cc in omega arith
 
       Agrees : Match → Type 0
       Agrees x = (lineOf c (x .line) fn direction ≡ accepted (x .slot)) × (lineAt c (x .line) .tn ≡ tn) × (x .slot .arfcn ≡ arfcn)

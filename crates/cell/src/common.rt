@@ -33,7 +33,7 @@ fn wide(n: u32) -> u64
     n as u64
 }
 
-fn is_common(combination: u32) -> bool
+fn is_common_combination(combination: u32) -> bool
     ensures { λ r. ⌜ r ≡ isCommonCombination combination ⌝ }
 {
     (combination == 4) | (combination == 5) | (combination == 6)
@@ -47,7 +47,7 @@ fn is_wanted(cell: &[u32; WORDS], n: usize, w: Wanted) -> bool
     let combination = combination_at(cell, n);
     let tn = wide(tn_at(cell, n));
     match w {
-        Wanted::Common => is_common(combination),
+        Wanted::Common => is_common_combination(combination),
         Wanted::Of(k) => combination == k,
         Wanted::In(k, t) => (combination == k) & (tn == t),
     }
@@ -89,7 +89,7 @@ fn c0_alone(cell: &[u32; WORDS], mask: u64) -> bool
     (u64::count_ones(mask) == 1) & has_c0(cell, mask)
 }
 
-// Two timeslots lower.
+// The timeslot two lower; 0 where there is none.
 fn lower(tn: u32) -> u64
     ensures { λ r. ⌜ r ≡ tn - 2 ⌝ }
 {
@@ -103,7 +103,7 @@ fn lower(tn: u32) -> u64
 pub(crate) fn misplaced(cell: &[u32; WORDS], tn: u32, mask: u64, combination: u32, tsc: u32) -> bool
     ensures { λ r. ⌜ r ≡ anyOf (misplaced (cellOf (now (cell .entry))) (record { tn = tn; mask = mask; hsn = 0; maio = 0; combination = combination; tsc = tsc })) ⌝ }
 {
-    let common = is_common(combination);
+    let common = is_common_combination(combination);
     if !common {
         return false;
     }
@@ -151,7 +151,7 @@ pub(crate) fn common_lines(cell: &[u32; WORDS]) -> u32
     let mut count = 0;
     let mut n = 0;
     while n < 64 {
-        count += one_if(is_common(combination_at(cell, n)));
+        count += one_if(is_common_combination(combination_at(cell, n)));
         n += 1;
     }
     count

@@ -85,10 +85,7 @@ pub fn start(cell: &mut [u32; WORDS], ca: &[u16], c0: u32, bcc: u32, ag: u32, p:
     if !is_allocation(ca) {
         return refuse_start(cell, Refusal::CellAllocation);
     }
-    if find(ca, c0) >= ca.len() {
-        return refuse_start(cell, Refusal::CellParameter);
-    }
-    if (bcc > 7) | ((ag > 7) | ((p < 2) | (p > 9))) {
+    if !(find(ca, c0) < ca.len()) | ((bcc > 7) | ((ag > 7) | ((p < 2) | (p > 9)))) {
         return refuse_start(cell, Refusal::CellParameter);
     }
     put_start(cell, ca, c0, bcc, ag, p);

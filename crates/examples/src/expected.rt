@@ -110,7 +110,7 @@ fn expect_line(a: TdmaLine, b: TdmaLine)
     equal(a.place2, b.place2);
 }
 
-// A burst of one block: ARFCN, channel, subchannel, owner, block and place, in the order of the printed answer.
+// A burst of one block: ARFCN, channel, subchannel, owner, block and place.
 pub(crate) fn expect_one_block(
     a: TdmaLine,
     arfcn: u32,

@@ -1,7 +1,7 @@
 // Combinations 4 to 7, from a table of all their frames: 102 frames, after which each of them repeats, for each combination and direction.
 ghost use mathlib.Core.Path.{_≡_};
 ghost use mathlib.Core.Bool.{cond};
-ghost use Prim.Native.Nat.{_/_, _%_, _*_, _<_};
+ghost use Prim.Native.Nat.{_<_};
 ghost use Rattle.frame_map.specs.Codes.{controlWord, spreadOf};
 ghost use Rattle.frame_map.specs.Combinations.{rowsOf};
 ghost use Rattle.frame_map.specs.Numbers.{standingNumbers, bytes};
@@ -234,7 +234,7 @@ fn control_word(key: u32) -> u64
     }
 }
 
-// Without a branch in the machine's code.
+// a or b. As a function by itself it becomes a choice without a branch in the machine's code.
 fn choose(first: bool, a: u64, b: u64) -> u64
     ensures { λ r. ⌜ r ≡ cond first a b ⌝ }
 {

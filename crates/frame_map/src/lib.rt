@@ -1,12 +1,5 @@
-// From frame to logical channel: which channel, subchannel, block and place a timeslot carries in each frame.
-ghost use mathlib.Core.Path.{_≡_};
-ghost use mathlib.Core.Bool.{false};
-ghost use Rattle.answers.specs.Outcome.{anyOf};
-ghost use Rattle.frame_map.specs.Combinations.{isCombination, rowsOf};
-ghost use Rattle.frame_map.specs.Map.{outOfRange, mapOf, mapped};
-ghost use Rattle.frame_map.specs.Numbers.{standingNumbers, numbersOf, bytes};
-ghost use Rattle.frame_map.specs.Rows.{standing};
-
+// Which channel, subchannel, block and place a timeslot carries in each frame: document 01, "From frame to logical channel (6.4.1, clause 7)".
+// traffic.rt has combinations 1 and 2, control.rt 4 to 7, both as eight bytes to a frame; unpack.rt makes the enum of the bytes.
 mod control;
 mod traffic;
 mod unpack;
@@ -15,6 +8,13 @@ use answers::Refusal;
 use control::control;
 use traffic::traffic;
 use unpack::unpack;
+ghost use mathlib.Core.Path.{_≡_};
+ghost use mathlib.Core.Bool.{false};
+ghost use Rattle.answers.specs.Outcome.{anyOf};
+ghost use Rattle.frame_map.specs.Combinations.{isCombination, rowsOf};
+ghost use Rattle.frame_map.specs.Map.{outOfRange, mapOf, mapped};
+ghost use Rattle.frame_map.specs.Numbers.{standingNumbers, numbersOf, bytes};
+ghost use Rattle.frame_map.specs.Rows.{standing};
 
 // The logical channels.
 pub enum Kind {

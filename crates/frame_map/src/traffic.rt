@@ -6,7 +6,8 @@ ghost use Rattle.frame_map.specs.Combinations.{rowsOf};
 ghost use Rattle.frame_map.specs.Numbers.{standingNumbers, bytes};
 ghost use Rattle.frame_map.specs.Rows.{standing};
 
-// The bytes of timeslot 0 in each h: from the last to the first the refusal, channel, subchannel, blocks, block, place, block and place.
+// The bytes of timeslot 0 in each h, from the last to the first: the refusal, channel, subchannel, how many blocks, block and place, and block and
+// place of the second. Each key has an arm, those of SACCH too, which `traffic` never asks for: so the compiler makes a table of it.
 fn traffic_word(key: u32) -> u64
     requires { ⌜ key < 52 ⌝ }
     ensures { λ r. ⌜ r ≡ trafficWord key ⌝ }

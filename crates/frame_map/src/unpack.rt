@@ -1,14 +1,15 @@
 // What a frame carries, from its eight bytes.
-ghost use mathlib.Core.Path.{_≡_};
-ghost use Prim.Native.Nat.{_<_};
-ghost use Rattle.frame_map.specs.Codes.{byteAt, kindAt, numbersAt, standingOf};
-ghost use Rattle.frame_map.specs.Map.{carried};
 use crate::Blocks;
 use crate::Burst;
 use crate::Content;
 use crate::Kind;
 use crate::Place;
+ghost use mathlib.Core.Path.{_≡_};
+ghost use Prim.Native.Nat.{_<_};
+ghost use Rattle.frame_map.specs.Codes.{byteAt, kindAt, numbersAt, standingOf};
+ghost use Rattle.frame_map.specs.Map.{carried};
 
+// Byte i, the lowest first.
 fn byte(bytes: u64, i: u32) -> u32
     requires { ⌜ i < 8 ⌝ }
     ensures { λ r. ⌜ r ≡ byteAt bytes i ⌝ }

@@ -1,5 +1,5 @@
-// Frequency hopping: document 01, "Hopping (6.2)". The masks are in masks.rt and select.rt, the check of the cell allocation in
-// allocation.rt, the hopping sequence in sequence.rt.
+// Frequency hopping: document 01, "Hopping (6.2)". masks.rt and select.rt have the bits of a mask, allocation.rt the check of a cell allocation and
+// its entries, sequence.rt the hopping sequence.
 pub mod allocation;
 pub mod masks;
 mod select;

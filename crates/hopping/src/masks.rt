@@ -2,7 +2,7 @@
 ghost use mathlib.Core.Path.{_≡_};
 ghost use Rattle.hopping.specs.Masks.{contains, oneAtOrAbove, shareOne};
 
-// The mask contains CA position p.
+// The mask has a one at the CA position.
 pub fn contains(mask: u64, position: u32) -> bool
     ensures { λ r. ⌜ r ≡ contains mask position ⌝ }
 {

@@ -122,7 +122,6 @@ const RNTABLE: [u8; 114] = [
     123,
 ];
 
-// The table's entry, as a u32.
 fn wide(x: u8) -> u32
     ensures { λ r. ⌜ r ≡ x ⌝ }
 {

@@ -11,10 +11,10 @@ use Rattle.paging.specs.Paging.{later}
 abbrev pub starts : List ℕ
 starts = 6 ∷ 12 ∷ 16 ∷ 22 ∷ 26 ∷ 32 ∷ 36 ∷ 42 ∷ 46 ∷ []
 
--- frame s of a multiframe with the remainder t
+-- frame fn is frame s of a multiframe with the remainder t by p
 abbrev pub isHit : ℕ → ℕ → ℕ → ℕ → Bool
 isHit p t s fn = eqb (fn / 51 % p) t && eqb (fn % 51) s
 
--- the first of these frames at or after FN
+-- the first of these frames at or after FN, past the turn to 0 too
 unfoldable pub firstHit : ℕ → ℕ → ℕ → ℕ → ℕ
 firstHit p t s fn = later fn (least (λ d. isHit p t s (later fn d)) hyperframe 0)

@@ -1,5 +1,5 @@
 -- What each answer of the C interface has: the outcome of the call in plain numbers. Where it is refused, `refusal` is document 01's number
--- and all else is 0; where it is accepted, `refusal` is 0. Assumes nothing.
+-- and all else is 0, but for the value that comes with 9 and 15; where it is accepted, `refusal` is 0. Assumes nothing.
 use Prim.Native.Nat.{ℕ}
 use mathlib.Core.List.{List, [], _∷_}
 use mathlib.Core.Option.{Option, none, some}
@@ -15,11 +15,12 @@ use Rattle.tdma.specs.declared.TdmaPosition.{TdmaPosition}
 use Rattle.tdma.specs.declared.TdmaHop.{TdmaHop}
 use Rattle.tdma.specs.declared.TdmaMap.{TdmaMap}
 
--- the value that comes with 9 (the line in the way) and 15; 0 for a refusal that comes alone
+-- the first entry, 0 where there is none
 abbrev pub firstOf : List ℕ → ℕ
 firstOf [] = 0
 firstOf (x ∷ xs) = x
 
+-- the value that comes with 9 (the line in the way) and 15 (the bit); 0 for a refusal that comes alone
 abbrev pub valueOf : Refused → ℕ
 valueOf r = firstOf (r .values)
 

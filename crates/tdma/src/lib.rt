@@ -1,6 +1,6 @@
 // The C interface, include/tdma.h: plain numbers, slices and cells in, structs of numbers out. `refusal` is 0 for an accepted call, else document
-// 01's number, and then every other number is 0 (but for the line of 9). specs/Numbers.antt says so for each answer. The calls of the cell are in
-// cells.rt, the bursts in buffers.rt.
+// 01's number, and then every other number is 0 (but for the line of 9 and the bit of 15). specs/Numbers.antt, Cells.antt and Buffers.antt say so for
+// each answer. The calls of the cell are in cells.rt, the bursts in buffers.rt.
 pub mod buffers;
 pub mod cells;
 

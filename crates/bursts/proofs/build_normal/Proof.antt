@@ -1,5 +1,5 @@
 -- `build_normal` meets its contract: the training sequence code is looked at first, and then it is `build`'s. Assumes nothing.
-use mathlib.Core.Path.{_≡_, sym, ap, _∙_}
+use mathlib.Core.Path.{sym, ap, _∙_}
 use borrow.Author.Needs.{needs}
 use lib.ListN.{length}
 use Rattle.bursts.specs.Rows.{Row, room}

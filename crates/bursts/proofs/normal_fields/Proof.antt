@@ -1,12 +1,11 @@
 -- `normal_fields` meets its contract: the code's first 10 bits are the bits of the code without its last 6. Assumes nothing.
 use Prim.Native.Nat.{ℕ, _/_, _^_}
-use mathlib.Core.Path.{_≡_, refl, ap, _∙_}
+use mathlib.Core.Path.{_≡_, ap}
 use mathlib.Core.List.{List, [], _∷_, _++_, map}
 use mathlib.Core.Option.{some}
 use borrow.Author.Needs.{needs}
-use lib.ListN.{getD, take}
+use lib.ListN.{getD}
 use Rattle.bursts.specs.declared.fields.Field.the-variants.{Fixed, Room}
-use Rattle.bursts.specs.Layouts as layouts
 use Rattle.bursts.specs.Layouts.{bits, codes, normal}
 use Rattle.bursts.specs.Rows.{rowOf}
 use Rattle.bursts.specs.Helpers.{fieldRow, fieldsRow}

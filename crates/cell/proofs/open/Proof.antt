@@ -38,17 +38,32 @@ causes s = openCauses (cell s) (s .args .line) (values s)
 abbrev start1 : tie.Else1 → tie.Start
 start1 c = c .before .before
 
+abbrev else1 : tie.Else2 → tie.Else1
+else1 c = c .before .before .before .before
+
+abbrev else2 : tie.Else3 → tie.Else2
+else2 c = c .before
+
+abbrev else3 : tie.Else4 → tie.Else3
+else3 c = c .before .before .before
+
+abbrev else4 : tie.Else5 → tie.Else4
+else4 c = c .before .before .before
+
+abbrev else5 : tie.Else6 → tie.Else5
+else5 c = c .before .before .before
+
 abbrev start2 : tie.Else2 → tie.Start
-start2 c = start1 (c .before .before .before .before)
+start2 c = start1 (else1 c)
 
 abbrev start3 : tie.Else3 → tie.Start
-start3 c = start2 (c .before)
+start3 c = start2 (else2 c)
 
 abbrev start4 : tie.Else4 → tie.Start
-start4 c = start3 (c .before .before .before)
+start4 c = start3 (else3 c)
 
 abbrev start5 : tie.Else5 → tie.Start
-start5 c = start4 (c .before .before .before)
+start5 c = start4 (else4 c)
 
 range : (c : tie.After-out-of-range) → combined (openRange (c .before .args .line) (values (c .before))) ≡ c .out-of-range .result
 range c = any-combined (openRange (c .before .args .line) (values (c .before))) ∙ sym (c .out-of-range .ensures)
@@ -80,6 +95,9 @@ way c =
     any-least (inTheWay (cell (start5 (c .before .before))) (values (start5 (c .before .before)))) 64
     ∙ ap (λ (n : ℕ). ltb n 64) (sym (c .in-the-way .ensures))
 
+none-in-the-way : (c : tie.Else6) → anyBelow (inTheWay (cell (start5 (else5 c))) (values (start5 (else5 c)))) 64 ≡ false
+none-in-the-way c = way (c .before) ∙ le-ltb _ _ (c .if6 .left)
+
 -- the refusal names it
 abbrev clashes : tie.Start → ℕ → Step
 clashes s n = record { refusal = some (record { number = 9; values = n ∷ [] }); cell = cell s }
@@ -102,24 +120,28 @@ one-at-or-above-requires c κs = search needs
 returns-2 : tie.Need-returns-2
 unfolding openOf
 returns-2 c =
-    let s = c .before .before .before .before .before .before in
-    ap (step (cell s)) (refused-by _ 1 (causes s) (in-range (c .before .before .before .before), rw (c .before .one-at-or-above .ensures, c .before .before .length .ensures) at (c .if2 .taken)))
+    let past1 = c .before .before .before .before in
+    let s = start1 past1 in
+    ap (step (cell s)) (refused-by _ 1 (causes s) (in-range past1, rw (c .before .one-at-or-above .ensures, c .before .before .length .ensures) at (c .if2 .taken)))
 
 returns-3 : tie.Need-returns-3
 unfolding openOf
 returns-3 c =
-    let s = c .before .before .before .before .before .before .before in
-    ap (step (cell s)) (refused-by _ 2 (causes s) (in-range (c .before .before .before .before .before), (allocated (c .before), le-not-ltb _ _ (rw (n-is s) at (c .if3 .taken)))))
+    let past2 = c .before in
+    let s = start2 past2 in
+    ap (step (cell s)) (refused-by _ 2 (causes s) (in-range (else1 past2), (allocated past2, le-not-ltb _ _ (rw (n-is s) at (c .if3 .taken)))))
 
 combination-at-requires : tie.Need-combination-at-requires
-combination-at-requires c κs = in-table _ _ (in-range (c .before .before .before .before .before .before))
+combination-at-requires c κs = in-table _ _ (in-range (else1 (else2 (c .before))))
 
 returns-4 : tie.Need-returns-4
 unfolding openOf
 returns-4 c =
-    let s = c .before .before .before .before .before .before .before .before .before .before in
+    let past3 = c .before .before .before in
+    let past2 = else2 past3 in
+    let s = start2 past2 in
     ap (step (cell s))
-    (refused-by _ 3 (causes s) (in-range (c .before .before .before .before .before .before .before .before), (allocated (c .before .before .before .before), (has-maio (c .before .before .before), open-line (λ e. c .if4 .taken (c .before .combination-at .ensures ∙ e))))))
+    (refused-by _ 3 (causes s) (in-range (else1 past2), (allocated past2, (has-maio past3, open-line (λ e. c .if4 .taken (c .before .combination-at .ensures ∙ e))))))
 
 misplaced-requires : tie.Need-misplaced-requires
 misplaced-requires c κs = search needs
@@ -127,9 +149,12 @@ misplaced-requires c κs = search needs
 returns-5 : tie.Need-returns-5
 unfolding openOf
 returns-5 c =
-    let s = c .before .before .before .before .before .before .before .before .before .before .before .before .before in
+    let past4 = c .before .before .before in
+    let past3 = else3 past4 in
+    let past2 = else2 past3 in
+    let s = start2 past2 in
     ap (step (cell s))
-    (refused-by _ 4 (causes s) (in-range (c .before .before .before .before .before .before .before .before .before .before .before), (allocated (c .before .before .before .before .before .before .before), (has-maio (c .before .before .before .before .before .before), (is-closed (c .before .before .before), place (c .before) ∙ c .if5 .taken)))))
+    (refused-by _ 4 (causes s) (in-range (else1 past2), (allocated past2, (has-maio past3, (is-closed past4, place (c .before) ∙ c .if5 .taken)))))
 
 in-the-way-requires : tie.Need-in-the-way-requires
 in-the-way-requires c κs = search needs
@@ -137,21 +162,31 @@ in-the-way-requires c κs = search needs
 returns-6 : tie.Need-returns-6
 unfolding openOf
 returns-6 c =
-    let s = c .before .before .before .before .before .before .before .before .before .before .before .before .before .before .before .before in
+    let past5 = c .before .before .before in
+    let past4 = else4 past5 in
+    let past3 = else3 past4 in
+    let past2 = else2 past3 in
+    let s = start2 past2 in
     ap (clashes s) (c .before .in-the-way .ensures)
     ∙ ap (step (cell s))
-    (refused-by _ 5 (causes s) (in-range (c .before .before .before .before .before .before .before .before .before .before .before .before .before .before), (allocated (c .before .before .before .before .before .before .before .before .before .before), (has-maio (c .before .before .before .before .before .before .before .before .before), (is-closed (c .before .before .before .before .before .before), (in-place (c .before .before .before), way (c .before) ∙ lt-ltb _ _ (c .if6 .taken)))))))
+    (refused-by _ 5 (causes s) (in-range (else1 past2), (allocated past2, (has-maio past3, (is-closed past4, (in-place past5, way (c .before) ∙ lt-ltb _ _ (c .if6 .taken)))))))
 
 put-line-requires : tie.Need-put-line-requires
-put-line-requires c κs = (c .put-line-arg .given .0 .1, in-table _ _ (in-range (c .before .before .before .before .before .before .before .before .before .before .before .before .before .before .before)))
+put-line-requires c κs =
+    (c .put-line-arg .given .0 .1, in-table _ _ (in-range (else1 (else2 (else3 (else4 (else5 (c .before))))))))
 
 returns-7 : tie.Need-returns-7
 unfolding openOf
 returns-7 c =
-    let s = c .before .before .before .before .before .before .before .before .before .before .before .before .before .before .before .before .before .before in
+    let past6 = c .before .before in
+    let past5 = else5 past6 in
+    let past4 = else4 past5 in
+    let past3 = else3 past4 in
+    let past2 = else2 past3 in
+    let s = start2 past2 in
     ap (changed Accepted) (c .put-line .ensures)
     ∙ ap (step (cell s))
-    (accepted-by _ (causes s) (in-range (c .before .before .before .before .before .before .before .before .before .before .before .before .before .before .before .before), (allocated (c .before .before .before .before .before .before .before .before .before .before .before .before), (has-maio (c .before .before .before .before .before .before .before .before .before .before .before), (is-closed (c .before .before .before .before .before .before .before .before), (in-place (c .before .before .before .before .before), (way (c .before .before .before) ∙ le-ltb _ _ (c .before .before .if6 .left), tt)))))))
+    (accepted-by _ (causes s) (in-range (else1 past2), (allocated past2, (has-maio past3, (is-closed past4, (in-place past5, (none-in-the-way past6, tt)))))))
 
 pub open-spec : {M : Type 1} → statement M
 open-spec = tie.close (tie.spec out-of-range-requires returns length-requires one-at-or-above-requires returns-2 returns-3 combination-at-requires returns-4 misplaced-requires returns-5 in-the-way-requires returns-6 put-line-requires returns-7)

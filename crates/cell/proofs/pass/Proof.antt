@@ -1,8 +1,9 @@
 -- `pass` meets its contract: its tests are the causes, in order, and then the subchannel has the other owner. Assumes nothing.
 use Prim.Native.Nat.{_<_}
-use mathlib.Core.Path.{sym, ap, _∙_}
-use mathlib.Core.Bool.{not}
+use mathlib.Core.Path.{_≡_, sym, ap, _∙_}
+use mathlib.Core.Bool.{false, not, _||_}
 use mathlib.Core.List.{List}
+use lib.Dec.{ltb}
 use native.Mathlib.Omega.{arith}
 use borrow.Author.Needs.{needs}
 use borrow.Author.Tests.{eq-eqb, ne-eqb}
@@ -11,19 +12,45 @@ use Rattle.answers.specs.Refusals.{refusalOf}
 use Rattle.answers.specs.declared.Answer.the-variants.{Accepted}
 use Rattle.answers.proofs.Decide.{refused-by, accepted-by}
 use Rattle.answers.proofs.Tests.{le-not-ltb, lt-not-ltb}
-use Rattle.cell.specs.State.{LineState, lineAt}
+use Rattle.cell.specs.State.{Cell, LineState, isOpen, lineAt}
 use Rattle.cell.specs.Words.{cellOf}
-use Rattle.cell.specs.Calls.{step, changed, subchannels}
+use Rattle.cell.specs.Calls.{step, changed, badOwner, subchannels}
 use Rattle.cell.specs.Helpers.{passCauses, passOf}
 use Rattle.cell.proofs.Lines.{in-table, closed-line, open-line, has-room}
 use Rattle.cell.proofs.pass.Statement.{statement}
 use Rattle.cell.proofs.pass.Tie as tie
 
-abbrev causes : tie.Start → List Cause
-causes s = passCauses (cellOf (s .args .cell .now)) (s .args .line) (s .args .s) (s .args .owner) (s .args .from) (refusalOf (s .args .other))
+abbrev cell : tie.Start → Cell
+cell s = cellOf (s .args .cell .now)
 
 abbrev named : tie.Start → LineState
-named s = lineAt (cellOf (s .args .cell .now)) (s .args .line)
+named s = lineAt (cell s) (s .args .line)
+
+abbrev causes : tie.Start → List Cause
+causes s = passCauses (cell s) (s .args .line) (s .args .s) (s .args .owner) (s .args .from) (refusalOf (s .args .other))
+
+-- ---- what is known past each test
+
+abbrev start1 : tie.Else1 → tie.Start
+start1 c = c .before .before
+
+abbrev else1 : tie.Else2 → tie.Else1
+else1 c = c .before .before .before
+
+abbrev else2 : tie.Else3 → tie.Else2
+else2 c = c .before .before
+
+abbrev else3 : tie.Else4 → tie.Else3
+else3 c = c .before .before .before
+
+in-range : (c : tie.Else1) → (ltb 63 (start1 c .args .line) || badOwner (start1 c .args .owner)) ≡ false
+in-range c = rw (c .before .bad-owner .ensures) at (c .if1 .left)
+
+is-open : (c : tie.Else2) → not (isOpen (named (start1 (else1 c)))) ≡ false
+is-open c = ap not (open-line (λ e. c .if2 .left (c .before .combination-at .ensures ∙ e)))
+
+exists : (c : tie.Else3) → start1 (else1 (else2 c)) .args .s < subchannels (named (start1 (else1 (else2 c))) .combination)
+exists c = rw (c .before .subchannels .ensures, else2 c .before .combination-at .ensures) at (c .if3 .left)
 
 bad-owner-requires : tie.Need-bad-owner-requires
 bad-owner-requires c κs = search needs
@@ -32,7 +59,7 @@ returns : tie.Need-returns
 unfolding passOf
 returns c =
     let s = c .before .before in
-    ap (step (cellOf (s .args .cell .now))) (refused-by _ 0 (causes s) (rw (c .before .bad-owner .ensures) at (c .if1 .taken)))
+    ap (step (cell s)) (refused-by _ 0 (causes s) (rw (c .before .bad-owner .ensures) at (c .if1 .taken)))
 
 combination-at-requires : tie.Need-combination-at-requires
 combination-at-requires c κs = in-table _ _ (c .before .if1 .left)
@@ -40,8 +67,9 @@ combination-at-requires c κs = in-table _ _ (c .before .if1 .left)
 returns-2 : tie.Need-returns-2
 unfolding passOf
 returns-2 c =
-    let s = c .before .before .before .before .before in
-    ap (step (cellOf (s .args .cell .now))) (refused-by _ 1 (causes s) (rw (c .before .before .before .before .bad-owner .ensures) at (c .before .before .before .if1 .left), ap not (closed-line (sym (c .before .combination-at .ensures) ∙ c .if2 .taken))))
+    let past1 = c .before .before .before in
+    let s = start1 past1 in
+    ap (step (cell s)) (refused-by _ 1 (causes s) (in-range past1, ap not (closed-line (sym (c .before .combination-at .ensures) ∙ c .if2 .taken))))
 
 subchannels-requires : tie.Need-subchannels-requires
 subchannels-requires c κs = search needs
@@ -49,38 +77,39 @@ subchannels-requires c κs = search needs
 returns-3 : tie.Need-returns-3
 unfolding passOf
 returns-3 c =
-    let s = c .before .before .before .before .before .before .before in
-    let none = rw (c .before .subchannels .ensures, c .before .before .before .combination-at .ensures) at (c .if3 .taken) in
-    ap (step (cellOf (s .args .cell .now)))
-    (refused-by _ 2 (causes s) (rw (c .before .before .before .before .before .before .bad-owner .ensures) at (c .before .before .before .before .before .if1 .left), (ap not (open-line (λ e. c .before .before .if2 .left (c .before .before .before .combination-at .ensures ∙ e))), le-not-ltb _ _ none)))
+    let past2 = c .before .before in
+    let s = start1 (else1 past2) in
+    let none = rw (c .before .subchannels .ensures, past2 .before .combination-at .ensures) at (c .if3 .taken) in
+    ap (step (cell s)) (refused-by _ 2 (causes s) (in-range (else1 past2), (is-open past2, le-not-ltb _ _ none)))
 
 owner-at-requires : tie.Need-owner-at-requires
-owner-at-requires c κs = in-table _ _ (c .before .before .before .before .before .before .if1 .left)
+owner-at-requires c κs = in-table _ _ (else1 (else2 (c .before)) .if1 .left)
 
 returns-4 : tie.Need-returns-4
 unfolding passOf
 returns-4 c =
-    let s = c .before .before .before .before .before .before .before .before .before .before in
-    let exists = rw (c .before .before .before .before .subchannels .ensures, c .before .before .before .before .before .before .combination-at .ensures) at (c .before .before .before .if3 .left) in
+    let past3 = c .before .before .before in
+    let past2 = else2 past3 in
+    let s = start1 (else1 past2) in
     let other = ap not (ne-eqb _ _ (λ e. c .if4 .taken (c .before .owner-at .ensures ∙ e))) in
-    ap (step (cellOf (s .args .cell .now)))
-    (refused-by _ 3 (causes s) (rw (c .before .before .before .before .before .before .before .before .before .bad-owner .ensures) at (c .before .before .before .before .before .before .before .before .if1 .left), (ap not (open-line (λ e. c .before .before .before .before .before .if2 .left (c .before .before .before .before .before .before .combination-at .ensures ∙ e))), (lt-not-ltb _ _ exists, other))))
+    ap (step (cell s)) (refused-by _ 3 (causes s) (in-range (else1 past2), (is-open past2, (lt-not-ltb _ _ (exists past3), other))))
 
 put-owner-requires : tie.Need-put-owner-requires
 put-owner-requires c κs =
-    let s = c .before .before .before .before .before .before .before .before .before .before .before in
-    let exists : s .args .s < subchannels (named s .combination) = rw (c .before .before .before .before .before .subchannels .ensures, c .before .before .before .before .before .before .before .combination-at .ensures) at (c .before .before .before .before .if3 .left) in
-    (c .put-owner-arg .given .0 .1, in-table _ _ (c .before .before .before .before .before .before .before .before .before .if1 .left), omega (arith, exists, has-room (named s .combination)))
+    let past3 = else3 (c .before) in
+    let past1 = else1 (else2 past3) in
+    (c .put-owner-arg .given .0 .1, in-table _ _ (past1 .if1 .left), omega (arith, exists past3, has-room (named (start1 past1) .combination)))
 
 returns-5 : tie.Need-returns-5
 unfolding passOf
 returns-5 c =
-    let s = c .before .before .before .before .before .before .before .before .before .before .before .before in
-    let exists = rw (c .before .before .before .before .before .before .subchannels .ensures, c .before .before .before .before .before .before .before .before .combination-at .ensures) at (c .before .before .before .before .before .if3 .left) in
-    let same = ap not (eq-eqb _ _ (sym (c .before .before .before .owner-at .ensures) ∙ c .before .before .if4 .left)) in
+    let past4 = c .before .before in
+    let past3 = else3 past4 in
+    let past2 = else2 past3 in
+    let s = start1 (else1 past2) in
+    let same = ap not (eq-eqb _ _ (sym (past4 .before .owner-at .ensures) ∙ past4 .if4 .left)) in
     ap (changed Accepted) (c .put-owner .ensures)
-    ∙ ap (step (cellOf (s .args .cell .now)))
-    (accepted-by _ (causes s) (rw (c .before .before .before .before .before .before .before .before .before .before .before .bad-owner .ensures) at (c .before .before .before .before .before .before .before .before .before .before .if1 .left), (ap not (open-line (λ e. c .before .before .before .before .before .before .before .if2 .left (c .before .before .before .before .before .before .before .before .combination-at .ensures ∙ e))), (lt-not-ltb _ _ exists, (same, tt)))))
+    ∙ ap (step (cell s)) (accepted-by _ (causes s) (in-range (else1 past2), (is-open past2, (lt-not-ltb _ _ (exists past3), (same, tt)))))
 
 pub pass-spec : {M : Type 1} → statement M
 pass-spec = tie.close (tie.spec bad-owner-requires returns combination-at-requires returns-2 subchannels-requires returns-3 owner-at-requires returns-4 put-owner-requires returns-5)

@@ -6,12 +6,11 @@ use mathlib.Core.List.{List}
 use lib.Dec.{ltb, eqb}
 use lib.ListN.{length, getD}
 use borrow.Author.Needs.{needs}
-use borrow.Author.Tests.{lt-ltb, le-ltb, not-false}
+use borrow.Author.Tests.{not-false}
 use Rattle.answers.specs.Outcome.{Cause}
 use Rattle.answers.specs.declared.Answer.the-variants.{Accepted}
 use Rattle.answers.proofs.Decide.{refused-by, accepted-by}
 use Rattle.answers.proofs.Search.{any-least}
-use Rattle.answers.proofs.Tests.{or-left, or-right, or-none}
 use Rattle.hopping.specs.Allocation.{isAllocation}
 use Rattle.hopping.proofs.Apart.{at-most-64}
 use Rattle.cell.specs.Calls.{step, changed, lists, startCauses, refusedCell, startOf}
@@ -30,10 +29,10 @@ valid : (c : tie.Else1) → isAllocation (start1 c .args .ca .now) ≡ true
 valid c = sym (c .before .is-allocation .ensures) ∙ not-false _ (c .if1 .left)
 
 -- C0 is listed exactly if its place is below the length
-found : (c : tie.After-find) → lists (start1 (c .before) .args .ca .now) (start1 (c .before) .args .c0) ≡ ltb (c .find .result) (length (start1 (c .before) .args .ca .now))
+found : (c : tie.After-find) → ltb (c .find .result) (length (start1 (c .before) .args .ca .now)) ≡ lists (start1 (c .before) .args .ca .now) (start1 (c .before) .args .c0)
 found c =
     let x = start1 (c .before) .args in
-    any-least (λ (k : ℕ). eqb (getD (x .ca .now) k 0) (x .c0)) (length (x .ca .now)) ∙ ap (λ (k : ℕ). ltb k (length (x .ca .now))) (sym (c .find .ensures))
+    ap (λ (k : ℕ). ltb k (length (x .ca .now))) (c .find .ensures) ∙ sym (any-least (λ (k : ℕ). eqb (getD (x .ca .now) k 0) (x .c0)) (length (x .ca .now)))
 
 is-allocation-requires : tie.Need-is-allocation-requires
 is-allocation-requires c κs = search needs
@@ -57,28 +56,18 @@ returns-2 : tie.Need-returns-2
 unfolding startOf
 returns-2 c =
     let s = c .before .before .before .before .before .before .before in
-    let missing = ap not (found (c .before .before .before) ∙ le-ltb _ _ (c .before .before .if2 .taken)) in
-    c .refuse-start2 .ensures ∙ ap (step refusedCell) (refused-by _ 1 (causes s) (ap not (valid (c .before .before .before .before)), or-left _ missing))
+    c .refuse-start2 .ensures
+    ∙ ap (step refusedCell) (refused-by _ 1 (causes s) (ap not (valid (c .before .before .before .before)), rw (found (c .before .before .before)) at (c .before .before .if2 .taken)))
 
-refuse-start-requires-3 : tie.Need-refuse-start-requires-3
-refuse-start-requires-3 c κs = search needs
+put-start-requires : tie.Need-put-start-requires
+put-start-requires c κs = (c .put-start-arg .given .0 .1, at-most-64 _ (valid (c .before .before .before)))
 
 returns-3 : tie.Need-returns-3
 unfolding startOf
 returns-3 c =
-    let s = c .before .before .before .before .before .before .before .before in
-    c .refuse-start3 .ensures
-    ∙ ap (step refusedCell) (refused-by _ 1 (causes s) (ap not (valid (c .before .before .before .before .before)), or-right (not (lists (s .args .ca .now) (s .args .c0))) (c .before .before .if3 .taken)))
-
-put-start-requires : tie.Need-put-start-requires
-put-start-requires c κs = (c .put-start-arg .given .0 .1, at-most-64 _ (valid (c .before .before .before .before)))
-
-returns-4 : tie.Need-returns-4
-unfolding startOf
-returns-4 c =
-    let s = c .before .before .before .before .before .before .before .before in
-    let present = ap not (found (c .before .before .before .before) ∙ lt-ltb _ _ (c .before .before .before .if2 .left)) in
-    ap (changed Accepted) (c .put-start .ensures) ∙ ap (step refusedCell) (accepted-by _ (causes s) (ap not (valid (c .before .before .before .before .before)), (or-none present (c .before .before .if3 .left), tt)))
+    let s = c .before .before .before .before .before .before .before in
+    ap (changed Accepted) (c .put-start .ensures)
+    ∙ ap (step refusedCell) (accepted-by _ (causes s) (ap not (valid (c .before .before .before .before)), (rw (found (c .before .before .before)) at (c .before .before .if2 .left), tt)))
 
 pub start-spec : {M : Type 1} → statement M
-start-spec = tie.close (tie.spec is-allocation-requires refuse-start-requires returns find-requires refuse-start-requires-2 returns-2 refuse-start-requires-3 returns-3 put-start-requires returns-4)
+start-spec = tie.close (tie.spec is-allocation-requires refuse-start-requires returns find-requires refuse-start-requires-2 returns-2 put-start-requires returns-3)

@@ -7,18 +7,18 @@ use Rattle.examples.proofs.Drill.{drill-sheet}
 use Rattle.examples.proofs.clock_rows.Statement.{statement}
 use Rattle.examples.proofs.clock_rows.Tie as tie
 
-split-requires : tie.Need-split-requires
-split-requires c κs = tt
+tdma-split-requires : tie.Need-tdma-split-requires
+tdma-split-requires c κs = tt
 
 expect-split-requires : tie.Need-expect-split-requires
 unfolding anyOf primeOf
-expect-split-requires c κs = c .split .ensures ∙ ap splitNumbers (drill-sheet .last-frame)
+expect-split-requires c κs = c .tdma-split .ensures ∙ ap splitNumbers (drill-sheet .last-frame)
 
-join-requires : tie.Need-join-requires
-join-requires c κs = tt
+tdma-join-requires : tie.Need-tdma-join-requires
+tdma-join-requires c κs = tt
 
 expect-join-requires : tie.Need-expect-join-requires
-expect-join-requires c κs = c .join .ensures ∙ ap joinNumbers (drill-sheet .frame-51)
+expect-join-requires c κs = c .tdma-join .ensures ∙ ap joinNumbers (drill-sheet .frame-51)
 
 returns : tie.Need-returns
 returns c = tt
@@ -27,8 +27,8 @@ pub clock-rows-spec : {M : Type 1} → statement M
 clock-rows-spec =
     tie.close
     (tie.spec
-    split-requires
+    tdma-split-requires
     expect-split-requires
-    join-requires
+    tdma-join-requires
     expect-join-requires
     returns)

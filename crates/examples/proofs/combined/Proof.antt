@@ -17,23 +17,23 @@ remaining : (c : tie.After-start) → Remaining (cellOf (c .start .last .0)) com
 unfolding nones
 remaining c = started empty combinedCalls (c .start .ensures .1) (drill-sheet .accepted-combined)
 
-open-requires : tie.Need-open-requires
-open-requires c κs = tt
+tdma-open-requires : tie.Need-tdma-open-requires
+tdma-open-requires c κs = tt
 
 expect-accepted-requires-2 : tie.Need-expect-accepted-requires-2
-expect-accepted-requires-2 c κs = next-accepted (remaining (c .before .before .before)) (c .open .ensures .0)
+expect-accepted-requires-2 c κs = next-accepted (remaining (c .before .before .before)) (c .tdma-open .ensures .0)
 
-remaining-2 : (c : tie.After-open) → Remaining (cellOf (c .open .last .0)) (drop 1 combinedCalls) combined
-remaining-2 c = called (remaining (c .before .before .before)) (c .open .ensures .1)
+remaining-2 : (c : tie.After-tdma-open) → Remaining (cellOf (c .tdma-open .last .0)) (drop 1 combinedCalls) combined
+remaining-2 c = called (remaining (c .before .before .before)) (c .tdma-open .ensures .1)
 
-seize-requires : tie.Need-seize-requires
-seize-requires c κs = tt
+tdma-seize-requires : tie.Need-tdma-seize-requires
+tdma-seize-requires c κs = tt
 
 expect-accepted-requires-3 : tie.Need-expect-accepted-requires-3
-expect-accepted-requires-3 c κs = next-accepted (remaining-2 (c .before .before .before)) (c .seize .ensures .0)
+expect-accepted-requires-3 c κs = next-accepted (remaining-2 (c .before .before .before)) (c .tdma-seize .ensures .0)
 
-remaining-3 : (c : tie.After-seize) → Remaining (cellOf (c .seize .last .0)) (drop 2 combinedCalls) combined
-remaining-3 c = called (remaining-2 (c .before .before .before)) (c .seize .ensures .1)
+remaining-3 : (c : tie.After-tdma-seize) → Remaining (cellOf (c .tdma-seize .last .0)) (drop 2 combinedCalls) combined
+remaining-3 c = called (remaining-2 (c .before .before .before)) (c .tdma-seize .ensures .1)
 
 returns : tie.Need-returns
 returns c = ended (remaining-3 (c .before))
@@ -44,8 +44,8 @@ combined-spec =
     (tie.spec
     start-requires
     expect-accepted-requires
-    open-requires
+    tdma-open-requires
     expect-accepted-requires-2
-    seize-requires
+    tdma-seize-requires
     expect-accepted-requires-3
     returns)

@@ -14,12 +14,12 @@ page-requires c κs = tt
 expect-page-requires : tie.Need-expect-page-requires
 expect-page-requires c κs = on-cell pageNumbers (λ x. pageOf x imsi 0) (c .page .ensures) (c .before .pre) (drill-sheet .page-asked)
 
-line-requires : tie.Need-line-requires
-line-requires c κs = tt
+tdma-line-requires : tie.Need-tdma-line-requires
+tdma-line-requires c κs = tt
 
 expect-one-block-requires : tie.Need-expect-one-block-requires
 unfolding standingNumbers
-expect-one-block-requires c κs = on-line _ _ _ (c .line .ensures) (c .before .before .before .pre) (drill-sheet .line-paged)
+expect-one-block-requires c κs = on-line _ _ _ (c .tdma-line .ensures) (c .before .before .before .pre) (drill-sheet .line-paged)
 
 returns : tie.Need-returns
 returns c = tt
@@ -30,6 +30,6 @@ page-rows-spec =
     (tie.spec
     page-requires
     expect-page-requires
-    line-requires
+    tdma-line-requires
     expect-one-block-requires
     returns)

@@ -5,33 +5,33 @@ use Rattle.examples.proofs.Checks.{on-line}
 use Rattle.examples.proofs.traffic_rows.Statement.{statement}
 use Rattle.examples.proofs.traffic_rows.Tie as tie
 
-line-requires : tie.Need-line-requires
-line-requires c κs = tt
+tdma-line-requires : tie.Need-tdma-line-requires
+tdma-line-requires c κs = tt
 
 expect-one-block-requires : tie.Need-expect-one-block-requires
 unfolding standingNumbers
-expect-one-block-requires c κs = on-line _ _ _ (c .line .ensures) (c .before .pre) (drill-sheet .line-full-rate-sacch)
+expect-one-block-requires c κs = on-line _ _ _ (c .tdma-line .ensures) (c .before .pre) (drill-sheet .line-full-rate-sacch)
 
-line-requires-2 : tie.Need-line-requires-2
-line-requires-2 c κs = tt
+tdma-line-requires-2 : tie.Need-tdma-line-requires-2
+tdma-line-requires-2 c κs = tt
 
 expect-idle-line-requires : tie.Need-expect-idle-line-requires
 unfolding standingNumbers
-expect-idle-line-requires c κs = on-line _ _ _ (c .line2 .ensures) (c .before .before .before .pre) (drill-sheet .line-full-rate-idle)
+expect-idle-line-requires c κs = on-line _ _ _ (c .tdma-line2 .ensures) (c .before .before .before .pre) (drill-sheet .line-full-rate-idle)
 
-line-requires-3 : tie.Need-line-requires-3
-line-requires-3 c κs = tt
+tdma-line-requires-3 : tie.Need-tdma-line-requires-3
+tdma-line-requires-3 c κs = tt
 
 expect-one-block-requires-2 : tie.Need-expect-one-block-requires-2
 unfolding standingNumbers
-expect-one-block-requires-2 c κs = on-line _ _ _ (c .line3 .ensures) (c .before .before .before .before .before .pre) (drill-sheet .line-half-rate-sacch)
+expect-one-block-requires-2 c κs = on-line _ _ _ (c .tdma-line3 .ensures) (c .before .before .before .before .before .pre) (drill-sheet .line-half-rate-sacch)
 
-line-requires-4 : tie.Need-line-requires-4
-line-requires-4 c κs = tt
+tdma-line-requires-4 : tie.Need-tdma-line-requires-4
+tdma-line-requires-4 c κs = tt
 
 expect-one-block-requires-3 : tie.Need-expect-one-block-requires-3
 unfolding standingNumbers
-expect-one-block-requires-3 c κs = on-line _ _ _ (c .line4 .ensures) (c .before .before .before .before .before .before .before .pre) (drill-sheet .line-sdcch8-sacch)
+expect-one-block-requires-3 c κs = on-line _ _ _ (c .tdma-line4 .ensures) (c .before .before .before .before .before .before .before .pre) (drill-sheet .line-sdcch8-sacch)
 
 returns : tie.Need-returns
 returns c = tt
@@ -40,12 +40,12 @@ pub traffic-rows-spec : {M : Type 1} → statement M
 traffic-rows-spec =
     tie.close
     (tie.spec
-    line-requires
+    tdma-line-requires
     expect-one-block-requires
-    line-requires-2
+    tdma-line-requires-2
     expect-idle-line-requires
-    line-requires-3
+    tdma-line-requires-3
     expect-one-block-requires-2
-    line-requires-4
+    tdma-line-requires-4
     expect-one-block-requires-3
     returns)

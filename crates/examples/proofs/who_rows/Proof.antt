@@ -9,11 +9,11 @@ use Rattle.examples.proofs.Checks.{on-cell, who-numbers}
 use Rattle.examples.proofs.who_rows.Statement.{statement}
 use Rattle.examples.proofs.who_rows.Tie as tie
 
-who-requires : tie.Need-who-requires
-who-requires c κs = tt
+tdma-who-requires : tie.Need-tdma-who-requires
+tdma-who-requires c κs = tt
 
-told-found : (c : tie.After-who) → c .who .result ≡ matchNumbers (record { line = 1; slot = cyclicSlot })
-told-found c = on-cell whoNumbers (λ x. whoOf x 1 20 5 0) (c .who .ensures) (c .before .pre) (drill-sheet .who-cyclic)
+told-found : (c : tie.After-tdma-who) → c .tdma-who .result ≡ matchNumbers (record { line = 1; slot = cyclicSlot })
+told-found c = on-cell whoNumbers (λ x. whoOf x 1 20 5 0) (c .tdma-who .ensures) (c .before .pre) (drill-sheet .who-cyclic)
 
 expect-who-requires : tie.Need-expect-who-requires
 expect-who-requires c κs = who-numbers (told-found c)
@@ -22,11 +22,11 @@ expect-two-blocks-requires : tie.Need-expect-two-blocks-requires
 unfolding standingNumbers
 expect-two-blocks-requires c κs = c .expect-who .ensures ∙ ap (λ a. a .answer) (told-found (c .before))
 
-who-requires-2 : tie.Need-who-requires-2
-who-requires-2 c κs = tt
+tdma-who-requires-2 : tie.Need-tdma-who-requires-2
+tdma-who-requires-2 c κs = tt
 
-told-nobody : (c : tie.After-who2) → c .who2 .result ≡ nobody 0
-told-nobody c = on-cell whoNumbers (λ x. whoOf x 1 10 5 0) (c .who2 .ensures) (c .before .before .before .before .pre) (drill-sheet .who-nobody)
+told-nobody : (c : tie.After-tdma-who2) → c .tdma-who2 .result ≡ nobody 0
+told-nobody c = on-cell whoNumbers (λ x. whoOf x 1 10 5 0) (c .tdma-who2 .ensures) (c .before .before .before .before .pre) (drill-sheet .who-nobody)
 
 expect-who-requires-2 : tie.Need-expect-who-requires-2
 expect-who-requires-2 c κs = who-numbers (told-nobody c)
@@ -41,10 +41,10 @@ pub who-rows-spec : {M : Type 1} → statement M
 who-rows-spec =
     tie.close
     (tie.spec
-    who-requires
+    tdma-who-requires
     expect-who-requires
     expect-two-blocks-requires
-    who-requires-2
+    tdma-who-requires-2
     expect-who-requires-2
     expect-idle-line-requires
     returns)

@@ -1,6 +1,6 @@
 -- `fields::bit` meets its contract: a word has no bit from 64 on. Assumes nothing.
 use Prim.Native.Nat.{ℕ, _/_, _%_, _^_, _<_, _≤_}
-use mathlib.Core.Path.{_≡_, sym, ap, _∙_}
+use mathlib.Core.Path.{_≡_, sym, ap}
 use native.Mathlib.Nat.{div-eq-of-lt, lt-of-lt-of-le}
 use borrow.Author.Needs.{needs}
 use lib.Pow.{pow-mono}

@@ -1,7 +1,6 @@
 -- `fields::copy` meets its contract: after k turns the first k bytes are those of `from`. Assumes nothing.
 use Prim.Native.Nat.{_-_, _≤_}
 use mathlib.Core.Path.{_≡_, refl, _∙_}
-use native.Mathlib.Omega.{arith}
 use lib.ListN.{length, take, length-set}
 use borrow.Author.Needs.{needs}
 use Rattle.bursts.proofs.Front.{front-more, front-all}

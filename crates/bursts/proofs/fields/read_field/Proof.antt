@@ -1,5 +1,5 @@
 -- `fields::read_field` meets its contract: payload bits are copied, and fixed bits are none. Assumes nothing.
-use mathlib.Core.Path.{_≡_, sym, _∙_}
+use mathlib.Core.Path.{sym, _∙_}
 use borrow.Author.Needs.{needs}
 use Rattle.bursts.proofs.FieldRows.{read-fixed, all-payload, read-room}
 use Rattle.bursts.proofs.fields.read_field.Statement.{statement}

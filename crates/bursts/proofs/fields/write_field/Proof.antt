@@ -1,5 +1,5 @@
 -- `fields::write_field` meets its contract: a word's bits, or the payload as it is. Assumes nothing.
-use mathlib.Core.Path.{_≡_, sym, _∙_}
+use mathlib.Core.Path.{sym, _∙_}
 use borrow.Author.Needs.{needs}
 use Rattle.bursts.proofs.FieldRows.{written-fixed, all-payload, written-room}
 use Rattle.bursts.proofs.fields.write_field.Statement.{statement}

@@ -1,5 +1,5 @@
 -- `fields::wrong_in` meets its contract: a word's bits are compared, payload bits are never wrong. Assumes nothing.
-use mathlib.Core.Path.{_≡_, _∙_}
+use mathlib.Core.Path.{_∙_}
 use borrow.Author.Needs.{needs}
 use Rattle.bursts.proofs.FieldRows.{compared-fixed, compared-room}
 use Rattle.bursts.proofs.fields.wrong_in.Statement.{statement}

@@ -1,21 +1,17 @@
 -- `air::on_air` meets its contract: the ARFCN, the content and the owner are the definitions'. Assumes nothing.
 use Prim.Native.Nat.{ℕ}
 use mathlib.Core.Path.{_≡_, ap, _∙_}
-use mathlib.Core.List.{List}
-use Rattle.frame_map.specs.Channels.{Standing}
 use Rattle.frame_map.specs.Map.{mapOf}
 use Rattle.cell.specs.State.{lineAt, ownerAt}
 use Rattle.cell.specs.Words.{cellOf}
-use Rattle.cell.specs.OnAir.{Slot, inFrame, ownerOf, slotOf}
+use Rattle.cell.specs.OnAir.{inFrame, ownerOf, slotOf}
 use borrow.Author.Needs.{needs}
+use Rattle.cell.proofs.Lines.{same-slot}
 use Rattle.cell.proofs.air.on_air.Statement.{statement}
 use Rattle.cell.proofs.air.on_air.Tie as tie
 
 same-map : (fn direction : ℕ) {k t k′ t′ : ℕ} → k ≡ k′ → t ≡ t′ → inFrame (mapOf k t fn direction) ≡ inFrame (mapOf k′ t′ fn direction)
 same-map fn direction p q = cc
-
-same-slot : {a b o p : ℕ} {xs ys : List Standing} → a ≡ b → xs ≡ ys → o ≡ p → _≡_ {A = Slot} (record { arfcn = a; standing = xs; owner = o }) (record { arfcn = b; standing = ys; owner = p })
-same-slot q r s = cc
 
 combination-at-requires : tie.Need-combination-at-requires
 combination-at-requires c κs = search needs

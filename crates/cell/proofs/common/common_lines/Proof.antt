@@ -35,14 +35,14 @@ loop-holds c = (search needs, search needs, refl)
 combination-at-requires : tie.Need-combination-at-requires Inv-loop μ-loop
 combination-at-requires c κs = search needs
 
-is-common-requires : tie.Need-is-common-requires Inv-loop μ-loop
-is-common-requires c κs = search needs
+is-common-combination-requires : tie.Need-is-common-combination-requires Inv-loop μ-loop
+is-common-combination-requires c κs = search needs
 
 one-if-requires : tie.Need-one-if-requires Inv-loop μ-loop
 one-if-requires c κs = search needs
 
 add-count : tie.Need-add-count Inv-loop μ-loop
-add-count c = let o : c .one-if .result ≤ 1 = at-most-one _ (c .before .is-common .result) (c .one-if .ensures) in search needs
+add-count c = let o : c .one-if .result ≤ 1 = at-most-one _ (c .before .is-common-combination .result) (c .one-if .ensures) in search needs
 
 add-n : tie.Need-add-n Inv-loop μ-loop
 add-n c = search needs
@@ -53,8 +53,8 @@ loop-less c = search needs
 loop-again : tie.Need-loop-again Inv-loop μ-loop
 loop-again c =
     let l = c .before .before .before .before .loop in
-    let o = at-most-one _ (c .before .is-common .result) (c .one-if .ensures) in
-    let e = c .before .is-common .ensures ∙ ap isCommonCombination (c .before .before .combination-at .ensures) in
+    let o = at-most-one _ (c .before .is-common-combination .result) (c .one-if .ensures) in
+    let e = c .before .is-common-combination .ensures ∙ ap isCommonCombination (c .before .before .combination-at .ensures) in
     (search needs, omega (arith, l .inv .1, o), more (common (cellOf (c .before .before .before .before .before .args .cell .now))) (l .n) (l .inv .2) (c .one-if .ensures ∙ ap (λ (b : Bool). cond b 1 0) e))
 
 returns : tie.Need-returns Inv-loop μ-loop
@@ -63,4 +63,4 @@ returns c =
     l .inv .2 ∙ ap (countBelow (common (cellOf (c .before .before .args .cell .now)))) (let e : l .n ≡ 64 = omega arith in e)
 
 pub common-lines-spec : {M : Type 1} → statement M
-common-lines-spec = tie.close (tie.spec Inv-loop μ-loop loop-holds combination-at-requires is-common-requires one-if-requires add-count add-n loop-less loop-again returns)
+common-lines-spec = tie.close (tie.spec Inv-loop μ-loop loop-holds combination-at-requires is-common-combination-requires one-if-requires add-count add-n loop-less loop-again returns)

@@ -23,8 +23,8 @@ wide-requires c κs = search needs
 enum-told : tie.Need-enum-told
 enum-told c = search needs
 
-is-common-requires : tie.Need-is-common-requires
-is-common-requires c κs = search needs
+is-common-combination-requires : tie.Need-is-common-combination-requires
+is-common-combination-requires c κs = search needs
 
 enum-known-w : tie.Need-enum-known-w
 enum-known-w c = search needs
@@ -35,7 +35,7 @@ enum-known-w-2 c = search needs
 returns : tie.Need-returns
 returns c =
     let x = c .before .before .before .before .before .before .args in
-    c .is-common .ensures ∙ ap isCommonCombination (c .before .before .before .before .before .combination-at .ensures) ∙ ap (λ w. wants w (lineAt (cellOf (x .cell .now)) (x .n))) (sym (c .before .enum-told .given .1))
+    c .is-common-combination .ensures ∙ ap isCommonCombination (c .before .before .before .before .before .combination-at .ensures) ∙ ap (λ w. wants w (lineAt (cellOf (x .cell .now)) (x .n))) (sym (c .before .enum-told .given .1))
 
 returns-2 : tie.Need-returns-2
 returns-2 c =
@@ -50,4 +50,4 @@ returns-3 c =
     ∙ ap (λ w. wants w (lineAt (cellOf (x .cell .now)) (x .n))) (sym (c .before .w2 .given .1))
 
 pub is-wanted-spec : {M : Type 1} → statement M
-is-wanted-spec = tie.close (tie.spec combination-at-requires tn-at-requires wide-requires enum-told is-common-requires enum-known-w enum-known-w-2 returns returns-2 returns-3)
+is-wanted-spec = tie.close (tie.spec combination-at-requires tn-at-requires wide-requires enum-told is-common-combination-requires enum-known-w enum-known-w-2 returns returns-2 returns-3)

@@ -27,14 +27,14 @@ another c v h =
     let e : (eqb (v .combination) 4 ≡ false) × (eqb (v .combination) 5 ≡ false) × (eqb (v .combination) 6 ≡ false) = none-of _ _ _ h in
     simp (e .0, e .1, e .2)
 
-is-common-requires : tie.Need-is-common-requires
-is-common-requires c κs = search needs
+is-common-combination-requires : tie.Need-is-common-combination-requires
+is-common-combination-requires c κs = search needs
 
 returns : tie.Need-returns
 returns c =
     let x = c .before .before .args in
     let v : Values = record { tn = x .tn; mask = x .mask; hsn = 0; maio = 0; combination = x .combination; tsc = x .tsc } in
-    another (cellOf (x .cell .now)) v (sym (c .before .is-common .ensures) ∙ not-true _ (c .if1 .taken))
+    another (cellOf (x .cell .now)) v (sym (c .before .is-common-combination .ensures) ∙ not-true _ (c .if1 .taken))
 
 c0-alone-requires : tie.Need-c0-alone-requires
 c0-alone-requires c κs = search needs
@@ -62,7 +62,7 @@ returns-2 c =
     let x = c .before .before .before .before .before .before .before .before .before .args in
     let v : Values = record { tn = x .tn; mask = x .mask; hsn = 0; maio = 0; combination = x .combination; tsc = x .tsc } in
     let six = c .any-line3 .ensures ∙ ap (λ (t : ℕ). anyLine (cellOf (x .cell .now)) (standsIn 6 t)) (c .before .lower .ensures) in
-    rw (c .before .before .before .before .before .before .before .before .is-common .ensures, c .before .before .before .before .before .before .c0-alone .ensures, c .before .before .before .before .before .bcc .ensures, c .before .before .before .before .any-line .ensures, c .before .before .before .ag .ensures, c .before .before .any-line2 .ensures, six) (any-combined (misplaced (cellOf (x .cell .now)) v))
+    rw (c .before .before .before .before .before .before .before .before .is-common-combination .ensures, c .before .before .before .before .before .before .c0-alone .ensures, c .before .before .before .before .before .bcc .ensures, c .before .before .before .before .any-line .ensures, c .before .before .before .ag .ensures, c .before .before .any-line2 .ensures, six) (any-combined (misplaced (cellOf (x .cell .now)) v))
 
 pub misplaced-spec : {M : Type 1} → statement M
-misplaced-spec = tie.close (tie.spec is-common-requires returns c0-alone-requires bcc-requires any-line-requires ag-requires any-line-requires-2 lower-requires any-line-requires-3 returns-2)
+misplaced-spec = tie.close (tie.spec is-common-combination-requires returns c0-alone-requires bcc-requires any-line-requires ag-requires any-line-requires-2 lower-requires any-line-requires-3 returns-2)
