@@ -64,7 +64,7 @@ fn spoil_allocation(random: &mut Random, ca: &mut Vec<u16>) {
 
 /// A number at an end of its range, one or two past it, or far past it; some of the last would be
 /// right if they were cut to one byte or two.
-fn odd_number(random: &mut Random, last: u32) -> u32 {
+pub fn odd_number(random: &mut Random, last: u32) -> u32 {
     let far = [256 + last, 65_536 + last, 1 << 31, u32::MAX];
     let near = [0, last, last + 1, last + 2];
     if random.once_in(2) {

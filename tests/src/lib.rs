@@ -6,18 +6,29 @@
 //! paging block begins. `bursts` has the layouts of clause 5.2 written out bit by bit. `library` is
 //! the library under test as C sees it. `random` draws the inputs, and `draw` whole calls on a cell,
 //! which `calls` makes on both. `c_api` is the second implementation for C.
+//!
+//! For the program `schedule`, `command` reads a line of its text format, `schedule` answers whole
+//! inputs from the second implementation, with `timetable` for the tables, `draw_line` and `script`
+//! write scripts for it, and `program` runs it. In `bin` two programs write the script that the gate
+//! runs and its answers; tests/make-script calls them.
 
 pub mod bursts;
 mod c_api;
 pub mod calls;
 pub mod cell;
 pub mod clock;
+pub mod command;
 pub mod draw;
+pub mod draw_line;
 pub mod frame_map;
 pub mod hopping;
 pub mod library;
 pub mod paging;
+pub mod program;
 pub mod random;
+pub mod schedule;
+pub mod script;
+pub mod timetable;
 
 /// An answer, or the number of the refusal.
 pub type Answer<T> = Result<T, u32>;

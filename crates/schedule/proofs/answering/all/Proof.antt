@@ -1,7 +1,6 @@
 -- `answering::all` is safe and ends: each turn looks for a line's end behind the one before. Assumes nothing.
 use Prim.Native.Nat.{_≤_, _-_}
 use mathlib.Core.Path.{_≡_}
-use native.Mathlib.Omega.{arith}
 use lib.ListN.{length}
 use borrow.Author.Needs.{needs}
 use Rattle.schedule.proofs.answering.all.Statement.{statement}

@@ -1,6 +1,5 @@
 -- `answering::command_in` is safe: the word is told by `next_word`. Assumes nothing.
 use mathlib.Core.Path.{subst}
-use native.Mathlib.Omega.{arith}
 use borrow.Author.Needs.{needs}
 use Rattle.text.specs.Words.{Ahead}
 use Rattle.schedule.proofs.answering.command_in.Statement.{statement}

@@ -1,5 +1,4 @@
 -- `table::rows` is safe and ends: the measure is how many rows are left. Assumes nothing.
-use Prim.Native.Nat.{_≤_, _-_}
 use mathlib.Core.Path.{_≡_}
 use lib.ListN.{length}
 use borrow.Author.Needs.{needs}
