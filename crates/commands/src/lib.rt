@@ -1,7 +1,8 @@
 // The words that name a command or a burst, by number in the order of the format's table; 0 for any other word.
 use text::words::same;
 ghost use mathlib.Core.Path.{_≡_};
-ghost use Rattle.commands.specs.Names.{commandOf, burstOf};
+ghost use lib.ListN.{drop};
+ghost use Rattle.commands.specs.Names.{placeAmong, commands, commandOf, burstOf};
 
 pub const SPLIT: u32 = 1;
 
@@ -70,6 +71,13 @@ pub fn command(word: &[u8]) -> u32
     if same(word, b"seize") {
         return SEIZE;
     }
+    later_command(word)
+}
+
+// The commands from `release` on.
+fn later_command(word: &[u8]) -> u32
+    ensures { λ r. ⌜ r ≡ placeAmong (now (word .entry)) 9 (drop 8 commands) ⌝ }
+{
     if same(word, b"release") {
         return RELEASE;
     }
