@@ -282,7 +282,7 @@ fn without_cell(
 
 // The answer to a command, by its number in the crate `commands`. `from`: where its word ends. `number`: the line's, for an error. `list` and `figures` are lent
 // to work in, and have room for all numbers and characters of the line.
-pub fn answer(
+pub(crate) fn answer(
     cell: &mut [u32; WORDS],
     command: u32,
     line: &[u8],

@@ -7,7 +7,7 @@ use native.Mathlib.Nat.{add-zero, not-suc-le-zero, le-of-suc-le-suc}
 use native.Mathlib.Numerals.{add-one}
 use native.Mathlib.Omega.{arith}
 use lib.Dec.{leb}
-use lib.ListN.{length, take, getD, set, length-take}
+use lib.ListN.{length, take, getD, set, length-take, length-append}
 use lib.Seq.{take-all, take-suc, take-suc-set, take-append-add}
 use borrow.Author.Tests.{leb-true, leb-false}
 use Rattle.text.specs.Print.{Appended, decimal, spaced}
@@ -122,3 +122,9 @@ pub map-at : (f : ℕ → ℕ) (l : List ℕ) (i : ℕ) → i < length l → f (
 map-at f [] i h = absurd (not-suc-le-zero h)
 map-at f (x ∷ l) zero h = refl
 map-at f (x ∷ l) (suc i) h = map-at f l i (le-of-suc-le-suc h)
+
+-- ---- for the reader: what has room is written whole, after what stood before
+pub written-whole : {b₀ b₁ t : List ℕ} {at end : ℕ} → Appended b₀ at b₁ end t → at + length t ≤ length b₀ → take end b₁ ≡ take at b₀ ++ t
+written-whole {b₀} {b₁} {t} {at} {end} p h =
+    p .written
+    ∙ take-all (length b₀) (take at b₀ ++ t) (let l : length (take at b₀ ++ t) ≡ min at (length b₀) + length t = length-append (take at b₀) t ∙ ap (λ (k : ℕ). k + length t) (length-take at b₀) in omega (arith, l, h))

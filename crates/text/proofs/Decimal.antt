@@ -11,11 +11,11 @@ use borrow.Author.Tests.{lt-ltb, le-ltb, leb-true, leb-false}
 use Rattle.io.specs.Digits.{digits, glyph, Fewest}
 use Rattle.text.specs.Print.{decimal, decimalWithin, left, right}
 
-one-digit : (f n : ℕ) → n < 10 → decimalWithin (suc f) n ≡ (48 + n) ∷ []
+pub one-digit : (f n : ℕ) → n < 10 → decimalWithin (suc f) n ≡ (48 + n) ∷ []
 unfolding decimalWithin
 one-digit f n h = ap (λ (t : Bool). cond t ((48 + n) ∷ []) (decimalWithin f (n / 10) ++ ((48 + n % 10) ∷ []))) (lt-ltb n 10 h)
 
-more-digits : (f n : ℕ) → 10 ≤ n → decimalWithin (suc f) n ≡ decimalWithin f (n / 10) ++ ((48 + n % 10) ∷ [])
+pub more-digits : (f n : ℕ) → 10 ≤ n → decimalWithin (suc f) n ≡ decimalWithin f (n / 10) ++ ((48 + n % 10) ∷ [])
 unfolding decimalWithin
 more-digits f n h = ap (λ (t : Bool). cond t ((48 + n) ∷ []) (decimalWithin f (n / 10) ++ ((48 + n % 10) ∷ []))) (le-ltb n 10 h)
 

@@ -19,7 +19,7 @@ use Rattle.text.specs.Words.{wordsOf}
 
 -- ---- digits
 
-some-digits : (w : List ℕ) → 0 < length w → isNumber w ≡ allDigits w
+pub some-digits : (w : List ℕ) → 0 < length w → isNumber w ≡ allDigits w
 unfolding isNumber
 some-digits [] h = absurd (omega (arith, h))
 some-digits (c ∷ w) h = refl

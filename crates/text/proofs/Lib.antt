@@ -2,3 +2,4 @@ pub mod Scan
 pub mod Digits
 pub mod Append
 pub mod Decimal
+pub mod ReadBack

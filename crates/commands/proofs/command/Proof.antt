@@ -14,7 +14,7 @@ same-requires c κs = search needs
 
 returns : tie.Need-returns
 unfolding commandOf
-returns c =     sym (hit _ 1 _ _ (sym (c .before .same .ensures) ∙ c .if1 .taken))
+returns c = sym (hit _ 1 _ _ (sym (c .before .same .ensures) ∙ c .if1 .taken))
 
 slice-aggregate-same-2 : tie.Need-slice-aggregate-same-2
 slice-aggregate-same-2 c = search needs
