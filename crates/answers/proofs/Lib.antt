@@ -4,3 +4,4 @@ pub mod Refusals
 pub mod Search
 pub mod Tables
 pub mod Tests
+pub mod Front

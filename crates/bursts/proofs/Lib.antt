@@ -5,7 +5,6 @@ pub mod Causes
 pub mod FieldRows
 pub mod FirstWrong
 pub mod FixedBits
-pub mod Front
 pub mod NormalCalls
 pub mod Places
 pub mod Printed

@@ -7,12 +7,10 @@ use mathlib.Core.Logic.{_≢_, _⊎_}
 use borrow.Author.Tests.{eq-eqb, ne-eqb}
 use Rattle.text.specs.Words.{ascii}
 use Rattle.text.specs.Print.{spaced}
-use Rattle.tdma.specs.declared.TdmaAnswer.{TdmaAnswer}
 use Rattle.tdma.specs.declared.TdmaSplit.{TdmaSplit}
-use Rattle.tdma.specs.declared.TdmaMap.{TdmaMap}
 use Rattle.tdma.specs.declared.cells.TdmaLine.{TdmaLine}
 use Rattle.tdma.specs.declared.cells.TdmaWho.{TdmaWho}
-use Rattle.replies.specs.Replies.{hasValue, refusedText, answered, numbersText, splitText, channels, channelText, contentText, mapText, slotText, lineText, whoText, bitsText, reasons, reasonText}
+use Rattle.replies.specs.Replies.{hasValue, refusedText, answered, splitText, channels, channelText, contentText, slotText, lineText, whoText, reasons, reasonText}
 use Rattle.replies.proofs.Choices.{first, second, no-name}
 
 pub with-value : (r v : ℕ) → hasValue r ≡ true → refusedText r v ≡ ascii "refused" ++ spaced (r ∷ v ∷ []) ++ ascii "\n"

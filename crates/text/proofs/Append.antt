@@ -112,11 +112,7 @@ spaced-more l i n h e =
 pub spaced-all : (l : List ℕ) (i : ℕ) → length l ≤ i → spaced (take i l) ≡ spaced l
 spaced-all l i h = ap spaced (take-all i l h)
 
--- ---- a list filled from the front
-
--- the store at i makes the front one longer
-pub front-more : (l t : List ℕ) (i v : ℕ) → i < length l → i < length t → take i l ≡ take i t → v ≡ getD t i 0 → take (i + 1) (set l i v) ≡ take (i + 1) t
-front-more l t i v hl ht e ev = rw (add-one i, take-suc-set l i v hl, take-suc t i 0 ht, e, ev) refl
+-- ---- an element of a list that a function went over
 
 pub map-at : (f : ℕ → ℕ) (l : List ℕ) (i : ℕ) → i < length l → f (getD l i 0) ≡ getD (map f l) i 0
 map-at f [] i h = absurd (not-suc-le-zero h)

@@ -5,7 +5,7 @@ use mathlib.Core.Bool.{Bool, true, false, cond}
 use mathlib.Core.List.{List, [], _∷_, _++_}
 use native.Mathlib.Nat.{pow-suc, pow-le-pow-right}
 use native.Mathlib.Omega.{arith}
-use lib.Dec.{ltb, leb}
+use lib.Dec.{leb}
 use lib.ListN.{length, take, replicate}
 use borrow.Author.Tests.{lt-ltb, le-ltb, leb-true, leb-false}
 use Rattle.io.specs.Digits.{digits, glyph, Fewest}

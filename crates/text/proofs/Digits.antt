@@ -1,21 +1,22 @@
 -- Laws of digits, of the value of digits and of numbers in a row. Assumes nothing.
-use Prim.Native.Nat.{ℕ, zero, suc, _+_, _-_, _*_, _/_, _^_, _≤_, _<_, min}
-use mathlib.Core.Path.{_≡_, refl, sym, ap, _∙_, subst}
-use mathlib.Core.Bool.{Bool, true, false, cond, not, _&&_}
+use Prim.Native.Nat.{ℕ, zero, suc, _+_, _-_, _*_, _^_, _≤_, _<_, min}
+use mathlib.Core.Path.{_≡_, refl, sym, ap, _∙_}
+use mathlib.Core.Bool.{Bool, true, false, cond, _&&_}
 use mathlib.Core.List.{List, [], _∷_, _++_}
 use mathlib.Core.Logic.{_≢_}
 use native.Mathlib.Nat.{le-refl, le-trans}
 use native.Mathlib.Numerals.{add-one}
 use native.Mathlib.Omega.{arith}
-use lib.Dec.{eqb, ltb}
+use lib.Dec.{eqb}
 use lib.ListN.{length, take, drop, getD, set, drop-of-length-le}
 use lib.Seq.{drop-cons, take-suc-set}
 use borrow.Author.Tests.{lt-ltb, le-ltb, eq-eqb, ne-eqb}
 use Rattle.text.specs.declared.numbers.Numeral.{Numeral}
 use Rattle.text.specs.declared.numbers.Numeral.the-variants.{Value, NotDigits, TooLarge}
-use Rattle.text.specs.Numbers.{isDigit, allDigits, isNumber, valueFrom, within, numberOf, Taken, took, wrong, reasonOf, withNumber, numbersAfter, numbersIn, onlyThese, listAfter}
+use Rattle.text.specs.Numbers.{isDigit, allDigits, isNumber, valueFrom, within, numberOf, Taken, took, wrong, withNumber, numbersAfter, numbersIn, onlyThese, listAfter}
 use Rattle.text.specs.declared.numbers.Values.{Values}
 use Rattle.text.specs.Words.{wordsOf}
+use Rattle.text.specs.Helpers.{reasonOf}
 
 -- ---- digits
 

@@ -1,7 +1,7 @@
 -- A number that is written reads as itself: its digits are digits, and have its value. Assumes nothing.
-use Prim.Native.Nat.{ℕ, zero, suc, _+_, _-_, _*_, _/_, _%_, _^_, _≤_, _<_}
-use mathlib.Core.Path.{_≡_, refl, sym, ap, _∙_}
-use mathlib.Core.Bool.{Bool, true, false, _&&_}
+use Prim.Native.Nat.{ℕ, zero, suc, _+_, _-_, _*_, _/_, _%_, _^_, _<_}
+use mathlib.Core.Path.{_≡_, refl, ap, _∙_}
+use mathlib.Core.Bool.{Bool, true, false}
 use mathlib.Core.List.{List, [], _∷_, _++_}
 use native.Mathlib.Nat.{pow-suc}
 use native.Mathlib.Omega.{arith}
@@ -10,7 +10,7 @@ use lib.ListN.{length, length-append}
 use borrow.Author.Tests.{ltb-true, ltb-false, le-leb}
 use Rattle.answers.proofs.Tests.{and-both, and-left, and-right}
 use Rattle.text.specs.declared.numbers.Numeral.the-variants.{Value}
-use Rattle.text.specs.Numbers.{isDigit, allDigits, isNumber, valueFrom, numberOf}
+use Rattle.text.specs.Numbers.{isDigit, allDigits, valueFrom, numberOf}
 use Rattle.text.specs.Print.{decimal, decimalWithin}
 use Rattle.text.proofs.Digits.{some-digits, number-value, is-value}
 use Rattle.text.proofs.Decimal.{one-digit, more-digits}

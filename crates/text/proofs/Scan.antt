@@ -1,5 +1,5 @@
 -- Laws of `until`, `run`, `sameText` and `wordsOf`: how a loop over the bytes takes one more, and what the first word of a text is. Assumes nothing.
-use Prim.Native.Nat.{ℕ, zero, suc, _+_, _-_, _≤_, _<_}
+use Prim.Native.Nat.{ℕ, suc, _+_, _-_, _≤_, _<_}
 use mathlib.Core.Path.{_≡_, refl, sym, ap, _∙_, subst}
 use mathlib.Core.Bool.{Bool, true, false, cond, not, _&&_}
 use mathlib.Core.List.{List, [], _∷_}
@@ -13,7 +13,7 @@ use lib.Seq.{drop-cons, drop-drop, getD-drop}
 use borrow.Author.Tests.{eq-eqb, ne-eqb, eqb-true, eqb-false}
 use Rattle.answers.proofs.Tests.{and-false-right}
 use Rattle.text.specs.Words.{until, run, inWord, joined, wordsOf, sameText, between, Ahead}
-use Rattle.text.specs.declared.words.Next.the-variants.{Word, Nothing}
+use Rattle.text.specs.declared.words.Next.the-variants.{Word}
 
 -- ---- one byte more
 

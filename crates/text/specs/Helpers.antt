@@ -5,10 +5,17 @@ use mathlib.Core.List.{List, [], _∷_}
 use lib.ListN.{length, take, drop}
 use Rattle.text.specs.Words.{wordsOf}
 use Rattle.text.specs.declared.numbers.Listed.{Listed}
-use Rattle.text.specs.Numbers.{numberOf, reasonOf, listIn, listAfter}
-use Rattle.text.specs.declared.numbers.Numeral.the-variants.{Value}
+use Rattle.text.specs.Numbers.{numberOf, listIn, listAfter}
+use Rattle.text.specs.declared.numbers.Numeral.{Numeral}
+use Rattle.text.specs.declared.numbers.Numeral.the-variants.{Value, NotDigits, TooLarge}
 use Rattle.text.specs.declared.numbers.Took.{Took}
 use Rattle.text.specs.declared.numbers.Took.the-variants.{Number, End, Wrong}
+
+-- why a word is no number, 0 if it is one
+abbrev pub reasonOf : Numeral → ℕ
+reasonOf (Value n) = 0
+reasonOf NotDigits = 5
+reasonOf TooLarge = 6
 
 -- what is told of the first word from a place on, as a number
 abbrev pub Ahead-number : List ℕ → ℕ → Took → Type 0

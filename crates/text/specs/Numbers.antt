@@ -1,7 +1,7 @@
 -- The numbers in a line. Assumes nothing.
 use Prim.Native.Nat.{ℕ, zero, suc, _+_, _-_, _*_, _^_, min}
-use mathlib.Core.Bool.{Bool, true, false, cond, not, _&&_}
-use mathlib.Core.List.{List, [], _∷_, _++_, map}
+use mathlib.Core.Bool.{Bool, true, false, cond, _&&_}
+use mathlib.Core.List.{List, [], _∷_, _++_}
 use lib.Dec.{eqb, ltb, leb}
 use lib.ListN.{take, drop}
 use Rattle.text.specs.declared.numbers.Numeral.{Numeral}
@@ -40,12 +40,7 @@ pub data Taken : Type 0 where
   took : List ℕ → List (List ℕ) → Taken
   wrong : ℕ → Taken
 
--- "a word that is no such number where one is wanted"
-abbrev pub reasonOf : Numeral → ℕ
-reasonOf (Value n) = 0
-reasonOf NotDigits = 5
-reasonOf TooLarge = 6
-
+-- "a word that is no such number where one is wanted": "not a number" is 5, "number too large" 6
 abbrev pub withNumber : Numeral → (ℕ → Taken) → Taken
 withNumber (Value n) f = f n
 withNumber NotDigits f = wrong 5

@@ -1,7 +1,7 @@
 -- The parts of a timetable: "aligned text with a head line". Assumes nothing.
 use Prim.Native.Nat.{ℕ}
 use mathlib.Core.Bool.{cond}
-use mathlib.Core.List.{List, [], _∷_, _++_}
+use mathlib.Core.List.{List, _++_}
 use lib.Dec.{eqb, ltb}
 use Rattle.text.specs.Words.{ascii}
 use Rattle.text.specs.Print.{decimal, right, left}

@@ -1,7 +1,7 @@
 -- `reason` meets its contract: each name by its number. Assumes nothing.
 use mathlib.Core.Path.{sym, ap}
 use borrow.Author.Needs.{needs}
-use Rattle.text.proofs.Append.{and-then, by-text}
+use Rattle.text.proofs.Append.{by-text}
 use Rattle.replies.specs.Replies.{reasonText}
 use Rattle.replies.proofs.Choices.{other}
 use Rattle.replies.proofs.Texts.{no-reason}

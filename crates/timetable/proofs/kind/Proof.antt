@@ -2,7 +2,7 @@
 use Prim.Native.Nat.{ℕ}
 use mathlib.Core.Path.{sym, ap}
 use borrow.Author.Needs.{needs}
-use Rattle.text.proofs.Append.{and-then, by-text}
+use Rattle.text.proofs.Append.{by-text}
 use Rattle.text.specs.Print.{left}
 use Rattle.replies.specs.Replies.{channelText}
 use Rattle.replies.proofs.Choices.{other}

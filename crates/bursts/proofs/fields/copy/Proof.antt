@@ -3,7 +3,7 @@ use Prim.Native.Nat.{_-_, _≤_}
 use mathlib.Core.Path.{_≡_, refl, _∙_}
 use lib.ListN.{length, take, length-set}
 use borrow.Author.Needs.{needs}
-use Rattle.bursts.proofs.Front.{front-more, front-all}
+use Rattle.answers.proofs.Front.{front-more, front-all}
 use Rattle.bursts.proofs.fields.copy.Statement.{statement}
 use Rattle.bursts.proofs.fields.copy.Tie as tie
 

@@ -1,6 +1,5 @@
 -- `figures::next_figures` meets its contract: the word is told by `next_word`. Assumes nothing.
 use mathlib.Core.Path.{subst}
-use native.Mathlib.Omega.{arith}
 use borrow.Author.Needs.{needs}
 use Rattle.text.specs.Words.{Ahead}
 use Rattle.schedule.proofs.figures.next_figures.Statement.{statement}

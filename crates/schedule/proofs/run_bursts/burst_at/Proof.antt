@@ -1,6 +1,5 @@
 -- `run_bursts::burst_at` is safe: the word is told by `next_word`. Assumes nothing.
 use mathlib.Core.Path.{subst}
-use native.Mathlib.Omega.{arith}
 use borrow.Author.Needs.{needs}
 use Rattle.text.specs.Words.{Ahead}
 use Rattle.schedule.proofs.run_bursts.burst_at.Statement.{statement}

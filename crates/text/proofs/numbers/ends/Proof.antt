@@ -1,6 +1,6 @@
 -- `numbers::ends` meets its contract. Assumes nothing.
 use Prim.Native.Nat.{ℕ}
-use mathlib.Core.Path.{_≡_, refl, sym, ap, _∙_, subst}
+use mathlib.Core.Path.{ap, _∙_, subst}
 use mathlib.Core.List.{List, []}
 use native.Mathlib.Omega.{arith}
 use borrow.Author.Needs.{needs}

@@ -1,12 +1,13 @@
 -- `numbers::figures` meets its contract: after i turns the first i characters are done. Assumes nothing.
 use Prim.Native.Nat.{_-_, _≤_}
-use mathlib.Core.Path.{_≡_, refl, sym, ap, _∙_}
+use mathlib.Core.Path.{_≡_, refl, sym, _∙_}
 use mathlib.Core.List.{map}
 use native.Mathlib.Omega.{arith}
 use lib.ListN.{length, take, length-set, length-map}
 use borrow.Author.Needs.{needs}
 use Rattle.text.specs.Numbers.{figure}
-use Rattle.text.proofs.Append.{front-more, map-at}
+use Rattle.answers.proofs.Front.{front-more}
+use Rattle.text.proofs.Append.{map-at}
 use Rattle.text.proofs.numbers.figures.Statement.{statement}
 use Rattle.text.proofs.numbers.figures.Tie as tie
 

@@ -1,9 +1,7 @@
 -- `numbers::number` meets its contract. Assumes nothing.
-use mathlib.Core.Path.{_≡_, sym, ap, _∙_}
-use mathlib.Core.Bool.{Bool, cond}
+use mathlib.Core.Path.{sym, _∙_}
 use borrow.Author.Needs.{needs}
 use borrow.Author.Tests.{not-true, not-false}
-use Rattle.text.specs.Numbers.{numberOf}
 use Rattle.text.proofs.Digits.{number-value, number-none}
 use Rattle.text.proofs.numbers.number.Statement.{statement}
 use Rattle.text.proofs.numbers.number.Tie as tie

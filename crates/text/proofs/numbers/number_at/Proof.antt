@@ -1,9 +1,9 @@
 -- `numbers::number_at` meets its contract: the word is told by `next_word`, its number by `number`. Assumes nothing.
-use mathlib.Core.Path.{_≡_, refl, sym, ap, _∙_, subst}
+use mathlib.Core.Path.{sym, ap, _∙_, subst}
 use native.Mathlib.Omega.{arith}
 use borrow.Author.Needs.{needs}
 use Rattle.text.specs.Words.{Ahead}
-use Rattle.text.specs.Numbers.{reasonOf}
+use Rattle.text.specs.Helpers.{reasonOf}
 use Rattle.text.proofs.numbers.number_at.Statement.{statement}
 use Rattle.text.proofs.numbers.number_at.Tie as tie
 

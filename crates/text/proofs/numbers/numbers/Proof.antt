@@ -1,8 +1,8 @@
 -- `numbers::numbers` meets its contract: the numbers taken before turn i, and those still wanted from there on, are those wanted from the beginning.
 -- Assumes nothing.
-use Prim.Native.Nat.{ℕ, suc, _+_, _-_, _≤_, _<_, min}
-use mathlib.Core.Path.{_≡_, refl, sym, ap, _∙_, subst}
-use mathlib.Core.List.{List, _∷_, [], _++_}
+use Prim.Native.Nat.{ℕ, _-_, _≤_, _<_, min}
+use mathlib.Core.Path.{_≡_, refl, ap, _∙_, subst}
+use mathlib.Core.List.{[]}
 use native.Mathlib.Nat.{sub-zero}
 use native.Mathlib.Omega.{arith}
 use lib.ListN.{length, take, drop, length-set}

@@ -1,6 +1,6 @@
 -- `numbers::only` meets its contract: after the numbers comes no word. Assumes nothing.
 use Prim.Native.Nat.{min}
-use mathlib.Core.Path.{_≡_, refl, sym, ap, _∙_, subst}
+use mathlib.Core.Path.{_∙_, subst}
 use native.Mathlib.Omega.{arith}
 use borrow.Author.Needs.{needs}
 use Rattle.text.specs.Words.{Ahead}

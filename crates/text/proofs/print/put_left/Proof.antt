@@ -1,7 +1,5 @@
 -- `print::put_left` meets its contract: the digits, and then spaces. Assumes nothing.
-use Prim.Native.Nat.{ℕ, _-_}
-use mathlib.Core.Path.{ap, sym, _∙_}
-use mathlib.Core.List.{_++_}
+use Prim.Native.Nat.{_-_}
 use borrow.Author.Needs.{needs}
 use Rattle.text.specs.Print.{decimal}
 use Rattle.text.proofs.Append.{and-then, by-text}

@@ -1,11 +1,8 @@
 -- `print::put_numbers` meets its contract: after i turns the first i numbers are written. Assumes nothing.
-use Prim.Native.Nat.{ℕ, _+_, _-_, _≤_}
-use mathlib.Core.Path.{_≡_, refl, sym, ap, _∙_}
-use mathlib.Core.List.{List, [], _∷_, _++_}
-use native.Mathlib.Omega.{arith}
-use lib.ListN.{length, take, drop}
+use Prim.Native.Nat.{_-_, _≤_}
+use lib.ListN.{length, take}
 use borrow.Author.Needs.{needs}
-use Rattle.text.specs.Print.{Appended, spaced, decimal}
+use Rattle.text.specs.Print.{Appended, spaced}
 use Rattle.text.proofs.Append.{and-then, by-text, appended-nothing, spaced-more, spaced-all}
 use Rattle.text.proofs.print.put_numbers.Statement.{statement}
 use Rattle.text.proofs.print.put_numbers.Tie as tie
