@@ -2,72 +2,42 @@
 // lends; words.rt alone knows what stands where. common.rt has the places of common channels (refusal 8) and their count, clash.rt the line that
 // stands in the way (9), subchannels.rt the subchannels of a line, air.rt what a line sends in a frame, seek.rt the line that has an ARFCN,
 // allocation.rt the search in a cell allocation.
-mod air;
 mod allocation;
-mod clash;
-mod common;
-mod seek;
 mod subchannels;
-pub mod words;
 
-use air::on_air;
 use allocation::find;
 use answers::Answer;
 use answers::Refusal;
-use clash::in_the_way;
-use clock::Frame;
-use common::common_lines;
-use common::has_combined;
-use common::misplaced;
-use common::needed;
-use frame_map::Content;
 use frame_map::is_combination;
 use hopping::allocation::is_allocation;
 use hopping::masks::one_at_or_above;
 use paging::Paged;
-use seek::first_on;
+use placing::clash::in_the_way;
+use placing::common::common_lines;
+use placing::common::has_combined;
+use placing::common::misplaced;
+use placing::common::needed;
+use storage::WORDS;
+use storage::ag;
+use storage::combination_at;
+use storage::length;
+use storage::owner_at;
+use storage::p;
+use storage::put_line;
+use storage::put_owner;
+use storage::put_start;
 use subchannels::bad_owner;
 use subchannels::some_held;
 use subchannels::subchannels;
-use words::WORDS;
-use words::ag;
-use words::combination_at;
-use words::length;
-use words::owner_at;
-use words::p;
-use words::put_line;
-use words::put_owner;
-use words::put_start;
 ghost use mathlib.Core.Option.{some};
 ghost use mathlib.Core.Path.{_≡_};
 ghost use Rattle.answers.specs.Outcome.{anyOf};
 ghost use Rattle.answers.specs.Refusals.{refusalOf};
-ghost use Rattle.cell.specs.Calls.{openRange, refusedCell, startOf, openOf, closeOf, seizeOf, releaseOf, changed};
+ghost use Rattle.rules.specs.Calls.{openRange, refusedCell, startOf, openOf, closeOf, seizeOf, releaseOf, changed};
 ghost use Rattle.cell.specs.Helpers.{passOf};
-ghost use Rattle.cell.specs.OnAir.{lineOf, aired};
-ghost use Rattle.cell.specs.Paging.{pageOf};
-ghost use Rattle.cell.specs.Who.{whoOf, lineFound, sought};
-ghost use Rattle.cell.specs.Words.{cellOf};
+ghost use Rattle.rules.specs.Paging.{pageOf};
+ghost use Rattle.storage.specs.Words.{cellOf};
 ghost use Rattle.paging.specs.Paging.{paged};
-
-// What a line sends in a frame. The owner is 0 for idle, for a common part and for a free subchannel.
-pub struct OnAir {
-    pub arfcn: u32,
-    pub content: Content,
-    pub owner: u32,
-}
-
-pub enum Aired {
-    Line(OnAir),
-    Refused(Refusal),
-}
-
-// A line by its number.
-pub enum Sought {
-    Line(u32),
-    Nobody,
-    Refused(Refusal),
-}
 
 // Refused, start leaves the cell of ARFCN 0.
 fn refuse_start(cell: &mut [u32; WORDS], refusal: Refusal) -> Answer
@@ -198,35 +168,6 @@ pub fn release(cell: &mut [u32; WORDS], line: u32, s: u32, owner: u32) -> Answer
     ensures { λ r. ⌜ changed r (cellOf (now (cell .exit))) ≡ releaseOf (cellOf (now (cell .entry))) line s owner ⌝ }
 {
     pass(cell, line, s, owner, owner, 0, Refusal::NotHolder)
-}
-
-// What line `line` sends in frame `number`, downlink (0) or uplink (1).
-pub fn line(cell: &[u32; WORDS], line: u32, number: u32, direction: u32) -> Aired
-    ensures { λ r. ⌜ aired r ≡ lineOf (cellOf (now (cell .entry))) line number direction ⌝ }
-{
-    if (line > 63) | ((number >= Frame::HYPERFRAME) | (direction > 1)) {
-        return Aired::Refused(Refusal::OutOfRange);
-    }
-    let n = line as usize;
-    if combination_at(cell, n) == 0 {
-        return Aired::Refused(Refusal::LineClosed);
-    }
-    Aired::Line(on_air(cell, n, number, direction))
-}
-
-// Who is on the air: the open line of timeslot `tn` that has this ARFCN in frame `number`. What it sends there, downlink (0) or uplink (1), is what
-// `line` answers for it.
-pub fn who(cell: &[u32; WORDS], tn: u32, arfcn: u32, number: u32, direction: u32) -> Sought
-    ensures { λ r. ⌜ sought r ≡ lineFound (whoOf (cellOf (now (cell .entry))) tn arfcn number direction) ⌝ }
-{
-    if (tn > 7) | ((arfcn > 1023) | ((number >= Frame::HYPERFRAME) | (direction > 1))) {
-        return Sought::Refused(Refusal::OutOfRange);
-    }
-    let n = first_on(cell, tn, arfcn, number);
-    if n >= 64 {
-        return Sought::Nobody;
-    }
-    Sought::Line(n)
 }
 
 // The timeslot and CCCH block in which a phone with this IMSI is paged, one digit to a byte, and the first frame at or after `number` in which the

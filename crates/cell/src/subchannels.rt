@@ -1,11 +1,11 @@
 // The subchannels of a line and their owners.
-use crate::words::WORDS;
-use crate::words::owner_at;
+use storage::WORDS;
+use storage::owner_at;
 ghost use mathlib.Core.Path.{_≡_};
 ghost use Prim.Native.Nat.{_<_};
-ghost use Rattle.cell.specs.Calls.{badOwner, subchannels, someHeld};
-ghost use Rattle.cell.specs.State.{lineAt};
-ghost use Rattle.cell.specs.Words.{cellOf};
+ghost use Rattle.rules.specs.Calls.{badOwner, subchannels, someHeld};
+ghost use Rattle.rules.specs.State.{lineAt};
+ghost use Rattle.storage.specs.Words.{cellOf};
 
 const LAST_OWNER: u32 = 65_535;
 

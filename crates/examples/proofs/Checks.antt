@@ -4,16 +4,16 @@ use mathlib.Core.Path.{_≡_, refl, ap, _∙_, sym, subst}
 use mathlib.Core.List.{List, [], _∷_}
 use mathlib.Core.Option.{Option, none}
 use Rattle.answers.specs.Outcome.{Refused, Outcome}
-use Rattle.tdma.specs.declared.TdmaAnswer.{TdmaAnswer}
-use Rattle.tdma.specs.declared.cells.TdmaLine.{TdmaLine}
-use Rattle.tdma.specs.declared.cells.TdmaWho.{TdmaWho}
-use Rattle.tdma.specs.Numbers.{refusalNumber, refusalValue, answerNumbers}
+use Rattle.c_answers.specs.declared.TdmaAnswer.{TdmaAnswer}
+use Rattle.c_answers.specs.declared.TdmaLine.{TdmaLine}
+use Rattle.c_answers.specs.declared.TdmaWho.{TdmaWho}
+use Rattle.c_answers.specs.Numbers.{refusalNumber, refusalValue, answerNumbers}
 use Rattle.tdma.specs.Cells.{lineNumbers}
-use Rattle.cell.specs.State.{Cell}
-use Rattle.cell.specs.OnAir.{Slot, lineOf}
-use Rattle.cell.specs.History.{Call, Made}
-use Rattle.cell.specs.CollisionFree.{calling, made, run, begin}
-use Rattle.cell.specs.ExampleRun.{refusals}
+use Rattle.rules.specs.State.{Cell}
+use Rattle.rules.specs.OnAir.{Slot, lineOf}
+use Rattle.rules.specs.History.{Call, Made}
+use Rattle.rules.specs.CollisionFree.{calling, made, run, begin}
+use Rattle.rules.specs.ExampleRun.{refusals}
 
 -- a row asked of a cell: the function promises the definition's answer for the cell that it got, which is the sheet's
 pub on-cell : {A B : Type 0} (numbers : Outcome A → B) (question : Cell → Outcome A) {answer : B} {cell defined : Cell} {o : Outcome A}

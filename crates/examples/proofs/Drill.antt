@@ -16,13 +16,13 @@ use Rattle.frame_map.specs.Combinations.{fullRate, halfRate, uncombined, combin
 use Rattle.frame_map.specs.Map.{mapOf}
 use Rattle.paging.specs.Paging.{pagingOf}
 use Rattle.paging.proofs.Drill.{one-line, drill}
-use Rattle.cell.specs.State.{tabulate, closedLine, empty}
-use Rattle.cell.specs.Calls.{startOf, openOf, seizeOf}
-use Rattle.cell.specs.OnAir.{ownerOf, slotOf, lineOf}
-use Rattle.cell.specs.Paging.{commonOf, pageOf}
-use Rattle.cell.specs.Who.{matchOf, whoOf}
-use Rattle.cell.specs.CollisionFree.{run}
-use Rattle.cell.specs.ExampleRun.{refusals}
+use Rattle.rules.specs.State.{tabulate, closedLine, empty}
+use Rattle.rules.specs.Calls.{startOf, openOf, seizeOf}
+use Rattle.rules.specs.OnAir.{ownerOf, slotOf, lineOf}
+use Rattle.rules.specs.Paging.{commonOf, pageOf}
+use Rattle.rules.specs.Who.{matchOf, whoOf}
+use Rattle.rules.specs.CollisionFree.{run}
+use Rattle.rules.specs.ExampleRun.{refusals}
 use Rattle.examples.specs.DrillSheet.{imsi, traffic, DrillSheet}
 
 -- a question in range is answered by what stands there

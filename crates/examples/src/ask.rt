@@ -1,14 +1,14 @@
 // The questions about the sheet's own CA, 10, 20, 30, 40, and its phone, whose IMSI is 123.
-use cell::words::WORDS;
-use tdma::TdmaAnswer;
-use tdma::TdmaHop;
-use tdma::cells::TdmaPage;
+use c_answers::TdmaAnswer;
+use c_answers::TdmaHop;
+use c_answers::TdmaPage;
+use storage::WORDS;
 ghost use mathlib.Core.Path.{_≡_};
 ghost use Rattle.hopping.specs.Hopping.{hopOf};
-ghost use Rattle.cell.specs.Words.{cellOf};
-ghost use Rattle.cell.specs.Calls.{startOf};
-ghost use Rattle.cell.specs.Paging.{pageOf};
-ghost use Rattle.tdma.specs.Numbers.{hopNumbers};
+ghost use Rattle.storage.specs.Words.{cellOf};
+ghost use Rattle.rules.specs.Calls.{startOf};
+ghost use Rattle.rules.specs.Paging.{pageOf};
+ghost use Rattle.c_answers.specs.Numbers.{hopNumbers};
 ghost use Rattle.tdma.specs.Cells.{Left, pageNumbers};
 ghost use Rattle.examples.specs.DrillSheet.{ca, imsi};
 

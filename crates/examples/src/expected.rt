@@ -1,16 +1,16 @@
 // What the answers have to be. The checks run: every number of an answer is compared. Each `requires` makes its check a proof obligation.
-use tdma::TdmaAnswer;
-use tdma::TdmaHop;
-use tdma::TdmaJoin;
-use tdma::TdmaMap;
-use tdma::TdmaSplit;
-use tdma::cells::TdmaLine;
-use tdma::cells::TdmaPage;
-use tdma::cells::TdmaWho;
+use c_answers::TdmaAnswer;
+use c_answers::TdmaHop;
+use c_answers::TdmaJoin;
+use c_answers::TdmaLine;
+use c_answers::TdmaMap;
+use c_answers::TdmaPage;
+use c_answers::TdmaSplit;
+use c_answers::TdmaWho;
 ghost use mathlib.Core.Path.{_≡_};
 ghost use Rattle.answers.specs.Outcome.{accepted};
 ghost use Rattle.frame_map.specs.Numbers.{noNumbers};
-ghost use Rattle.tdma.specs.Numbers.{joinNumbers, hopNumbers, mapFields};
+ghost use Rattle.c_answers.specs.Numbers.{joinNumbers, hopNumbers, mapFields};
 ghost use Rattle.tdma.specs.Cells.{lineFields, pageNumbers};
 
 // The channels' numbers in an answer.

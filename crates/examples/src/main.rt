@@ -3,7 +3,6 @@
 mod ask;
 mod expected;
 
-use cell::words::WORDS;
 use expected::CCCH;
 use expected::RACH;
 use expected::SACCH;
@@ -20,6 +19,7 @@ use expected::expect_page;
 use expected::expect_split;
 use expected::expect_two_blocks;
 use expected::expect_who;
+use storage::WORDS;
 use tdma::cells::tdma_line;
 use tdma::cells::tdma_open;
 use tdma::cells::tdma_seize;
@@ -28,7 +28,7 @@ use tdma::tdma_join;
 use tdma::tdma_map;
 use tdma::tdma_split;
 ghost use mathlib.Core.Path.{_≡_};
-ghost use Rattle.cell.specs.Words.{cellOf};
+ghost use Rattle.storage.specs.Words.{cellOf};
 ghost use Rattle.examples.specs.DrillSheet as sheet;
 
 fn clock_rows() {

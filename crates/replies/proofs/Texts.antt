@@ -7,9 +7,9 @@ use mathlib.Core.Logic.{_≢_, _⊎_}
 use borrow.Author.Tests.{eq-eqb, ne-eqb}
 use Rattle.text.specs.Words.{ascii}
 use Rattle.text.specs.Print.{spaced}
-use Rattle.tdma.specs.declared.TdmaSplit.{TdmaSplit}
-use Rattle.tdma.specs.declared.cells.TdmaLine.{TdmaLine}
-use Rattle.tdma.specs.declared.cells.TdmaWho.{TdmaWho}
+use Rattle.c_answers.specs.declared.TdmaSplit.{TdmaSplit}
+use Rattle.c_answers.specs.declared.TdmaLine.{TdmaLine}
+use Rattle.c_answers.specs.declared.TdmaWho.{TdmaWho}
 use Rattle.replies.specs.Replies.{hasValue, refusedText, answered, splitText, channels, channelText, contentText, slotText, lineText, whoText, reasons, reasonText}
 use Rattle.replies.proofs.Choices.{first, second, no-name}
 

@@ -6,11 +6,11 @@ use lib.Dec.{eqb}
 use lib.ListN.{getD}
 use Rattle.text.specs.Words.{ascii}
 use Rattle.text.specs.Print.{decimal, spaced, bitCharacter}
-use Rattle.tdma.specs.declared.TdmaAnswer.{TdmaAnswer}
-use Rattle.tdma.specs.declared.TdmaSplit.{TdmaSplit}
-use Rattle.tdma.specs.declared.TdmaMap.{TdmaMap}
-use Rattle.tdma.specs.declared.cells.TdmaLine.{TdmaLine}
-use Rattle.tdma.specs.declared.cells.TdmaWho.{TdmaWho}
+use Rattle.c_answers.specs.declared.TdmaAnswer.{TdmaAnswer}
+use Rattle.c_answers.specs.declared.TdmaSplit.{TdmaSplit}
+use Rattle.c_answers.specs.declared.TdmaMap.{TdmaMap}
+use Rattle.c_answers.specs.declared.TdmaLine.{TdmaLine}
+use Rattle.c_answers.specs.declared.TdmaWho.{TdmaWho}
 
 -- "`refused 9 LINE` and `refused 15 BIT` where document 01 gives a value with it"
 abbrev pub hasValue : ℕ → Bool

@@ -1,9 +1,9 @@
 // What each answer of the program `schedule` reads like, written to a lent buffer from a place on; the result is where it ends.
-use tdma::TdmaAnswer;
-use tdma::TdmaMap;
-use tdma::TdmaSplit;
-use tdma::cells::TdmaLine;
-use tdma::cells::TdmaWho;
+use c_answers::TdmaAnswer;
+use c_answers::TdmaLine;
+use c_answers::TdmaMap;
+use c_answers::TdmaSplit;
+use c_answers::TdmaWho;
 use text::print::put;
 use text::print::put_bits;
 use text::print::put_number;

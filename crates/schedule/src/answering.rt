@@ -4,7 +4,7 @@ use crate::output::ends_at;
 use crate::output::make_room;
 use crate::run;
 use crate::table;
-use cell::words::WORDS;
+use storage::WORDS;
 use text::print::put;
 use text::words::Next;
 use text::words::find;

@@ -9,7 +9,7 @@ mod run;
 mod run_bursts;
 mod table;
 
-use cell::words::WORDS;
+use storage::WORDS;
 use tdma::cells;
 use text::words::same;
 ghost use Prim.Native.Nat.{min};

@@ -3,7 +3,7 @@ use crate::answering;
 use crate::answering::Lines;
 use crate::answering::State;
 use crate::output;
-use cell::words::WORDS;
+use storage::WORDS;
 
 fn script(
     cell: &mut [u32; WORDS],

@@ -2,8 +2,8 @@
 // or why the line is no command; the result is where that ends. The bursts are in run_bursts.rt.
 use crate::figures::next_figures;
 use crate::run_bursts;
-use cell::words::WORDS;
 use replies::error;
+use storage::WORDS;
 use tdma::cells;
 use text::numbers;
 use text::numbers::narrow;

@@ -3,7 +3,7 @@ use crate::least;
 use crate::output::Output;
 use crate::output::ends_at;
 use crate::output::make_room;
-use cell::words::WORDS;
+use storage::WORDS;
 use tdma::cells;
 use text::numbers;
 use text::numbers::narrow;

@@ -5,10 +5,10 @@ use mathlib.Core.List.{List}
 use Rattle.answers.specs.Refusals.{refusalIn}
 use Rattle.answers.specs.declared.Answer.{Answer}
 use Rattle.bursts.specs.Bursts.{Written, wrote}
-use Rattle.cell.specs.Words.{cellOf}
-use Rattle.cell.specs.Calls.{Step, changed}
-use Rattle.tdma.specs.declared.TdmaAnswer.{TdmaAnswer}
-use Rattle.tdma.specs.Numbers.{answerNumbers}
+use Rattle.storage.specs.Words.{cellOf}
+use Rattle.rules.specs.Calls.{Step, changed}
+use Rattle.c_answers.specs.declared.TdmaAnswer.{TdmaAnswer}
+use Rattle.c_answers.specs.Numbers.{answerNumbers}
 use Rattle.tdma.specs.Buffers.{Wrote}
 use Rattle.tdma.specs.Cells.{Left}
 

@@ -4,11 +4,11 @@ use mathlib.Core.Path.{_≡_, refl, ap, _∙_}
 use mathlib.Core.Option.{Option, none, some}
 use native.Mathlib.Omega.{arith}
 use Rattle.answers.specs.Outcome.{Refused, Outcome, refused, accepted}
-use Rattle.cell.specs.State.{Cell}
-use Rattle.cell.specs.OnAir.{lineOf}
-use Rattle.cell.specs.Who.{Match, whoOf, lineFound}
-use Rattle.cell.proofs.WhoAndLine.{named-line}
-use Rattle.tdma.specs.declared.cells.TdmaLine.{TdmaLine}
+use Rattle.rules.specs.State.{Cell}
+use Rattle.rules.specs.OnAir.{lineOf}
+use Rattle.rules.specs.Who.{Match, whoOf, lineFound}
+use Rattle.rules.proofs.WhoAndLine.{named-line}
+use Rattle.c_answers.specs.declared.TdmaLine.{TdmaLine}
 use Rattle.tdma.specs.Cells.{lineNumbers, nobody, whoNumbers}
 
 pub line-found : (c : Cell) (tn arfcn fn direction n : ℕ) {a : TdmaLine} → accepted (some n) ≡ lineFound (whoOf c tn arfcn fn direction) → a ≡ lineNumbers (lineOf c n fn direction)

@@ -3,8 +3,8 @@ use Prim.Native.Nat.{ℕ}
 use mathlib.Core.Path.{_≡_}
 use mathlib.Core.List.{List}
 use Rattle.bursts.specs.Bursts.{Written}
-use Rattle.tdma.specs.declared.TdmaAnswer.{TdmaAnswer}
-use Rattle.tdma.specs.Numbers.{answerNumbers}
+use Rattle.c_answers.specs.declared.TdmaAnswer.{TdmaAnswer}
+use Rattle.c_answers.specs.Numbers.{answerNumbers}
 
 -- the answer and the lent bytes after a call are the definition's
 abbrev pub Wrote : TdmaAnswer → List ℕ → Written → Type 0

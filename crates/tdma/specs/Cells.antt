@@ -5,16 +5,16 @@ use mathlib.Core.List.{List}
 use mathlib.Core.Option.{Option, none, some}
 use Rattle.answers.specs.Outcome.{Outcome, refused, accepted}
 use Rattle.frame_map.specs.Numbers.{Numbers, noNumbers, standingNumbers}
-use Rattle.cell.specs.Words.{cellOf}
-use Rattle.cell.specs.Calls.{Step}
-use Rattle.cell.specs.OnAir.{Slot}
-use Rattle.cell.specs.Who.{Match}
+use Rattle.storage.specs.Words.{cellOf}
+use Rattle.rules.specs.Calls.{Step}
+use Rattle.rules.specs.OnAir.{Slot}
+use Rattle.rules.specs.Who.{Match}
 use Rattle.paging.specs.declared.PagingBlock.{PagingBlock}
-use Rattle.tdma.specs.declared.TdmaAnswer.{TdmaAnswer}
-use Rattle.tdma.specs.declared.cells.TdmaLine.{TdmaLine}
-use Rattle.tdma.specs.declared.cells.TdmaWho.{TdmaWho}
-use Rattle.tdma.specs.declared.cells.TdmaPage.{TdmaPage}
-use Rattle.tdma.specs.Numbers.{answerNumbers}
+use Rattle.c_answers.specs.declared.TdmaAnswer.{TdmaAnswer}
+use Rattle.c_answers.specs.declared.TdmaLine.{TdmaLine}
+use Rattle.c_answers.specs.declared.TdmaWho.{TdmaWho}
+use Rattle.c_answers.specs.declared.TdmaPage.{TdmaPage}
+use Rattle.c_answers.specs.Numbers.{answerNumbers}
 
 -- the answer, and the cell that the words hold after a call, are the definition's
 abbrev pub Left : TdmaAnswer → List ℕ → Step → Type 0

@@ -1,6 +1,6 @@
 // The bursts, one bit to a byte, in buffers that the caller lends.
-use crate::TdmaAnswer;
-use crate::answer_numbers;
+use c_answers::TdmaAnswer;
+use c_answers::answer_numbers;
 ghost use Rattle.bursts.specs.Bursts.{buildNormalOf, takeNormalOf, buildSynchronizationOf, takeSynchronizationOf, buildAccessOf, takeAccessOf, buildFrequencyCorrectionOf, buildDummyOf};
 ghost use Rattle.tdma.specs.Buffers.{Wrote};
 

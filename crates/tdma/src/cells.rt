@@ -1,60 +1,31 @@
 // The calls of the cell, whose words the caller lends.
-use crate::TdmaAnswer;
-use crate::answer_numbers;
-use crate::refusal_number;
-use cell::Aired;
-use cell::OnAir;
-use cell::Sought;
-use cell::words::WORDS;
+use c_answers::TdmaAnswer;
+use c_answers::TdmaLine;
+use c_answers::TdmaPage;
+use c_answers::TdmaWho;
+use c_answers::answer_numbers;
+use c_answers::refusal_number;
 use frame_map::Blocks;
 use frame_map::Burst;
 use frame_map::Content;
 use frame_map::Kind;
+use onair::Aired;
+use onair::OnAir;
+use onair::Sought;
 use paging::Paged;
+use storage::WORDS;
 ghost use mathlib.Core.Path.{_≡_};
 ghost use Rattle.answers.specs.Outcome.{accepted};
 ghost use Rattle.frame_map.specs.Channels.{kindNumber};
 ghost use Rattle.frame_map.specs.Map.{inBlocks};
 ghost use Rattle.frame_map.specs.Numbers.{noNumbers, standingNumbers};
-ghost use Rattle.cell.specs.Calls.{startOf, openOf, closeOf, seizeOf, releaseOf};
-ghost use Rattle.cell.specs.OnAir.{lineOf, slotIn};
-ghost use Rattle.cell.specs.Paging.{pageOf};
-ghost use Rattle.cell.specs.Who.{whoOf};
-ghost use Rattle.cell.specs.Words.{cellOf};
+ghost use Rattle.rules.specs.Calls.{startOf, openOf, closeOf, seizeOf, releaseOf};
+ghost use Rattle.rules.specs.OnAir.{lineOf};
+ghost use Rattle.onair.specs.Told.{slotIn};
+ghost use Rattle.rules.specs.Paging.{pageOf};
+ghost use Rattle.rules.specs.Who.{whoOf};
+ghost use Rattle.storage.specs.Words.{cellOf};
 ghost use Rattle.tdma.specs.Cells.{Left, lineFields, lineNumbers, nobody, whoNumbers, pageNumbers};
-
-// The ARFCN and the owner; the channel, 0 for idle, its subchannel, and as many blocks and places as `blocks` says.
-#[repr(C)]
-pub struct TdmaLine {
-    pub refusal: u32,
-    pub arfcn: u32,
-    pub owner: u32,
-    pub channel: u32,
-    pub subchannel: u32,
-    pub blocks: u32,
-    pub block: u32,
-    pub place: u32,
-    pub block2: u32,
-    pub place2: u32,
-}
-
-// The line that was found (`found` 1) and its answer, or nobody (0).
-#[repr(C)]
-pub struct TdmaWho {
-    pub refusal: u32,
-    pub found: u32,
-    pub line: u32,
-    pub answer: TdmaLine,
-}
-
-// A phone's timeslot and CCCH block, and the first frame of that.
-#[repr(C)]
-pub struct TdmaPage {
-    pub refusal: u32,
-    pub tn: u32,
-    pub block: u32,
-    pub frame: u32,
-}
 
 // A cell with all lines closed.
 #[no_mangle]
@@ -204,7 +175,7 @@ fn slot_numbers(a: OnAir) -> TdmaLine
 pub extern "C" fn tdma_line(cell: &[u32; WORDS], line: u32, frame: u32, direction: u32) -> TdmaLine
     ensures { λ r. ⌜ r ≡ lineNumbers (lineOf (cellOf (now (cell .entry))) line frame direction) ⌝ }
 {
-    match cell::line(cell, line, frame, direction) {
+    match onair::line(cell, line, frame, direction) {
         Aired::Line(a) => slot_numbers(a),
         Aired::Refused(e) => no_burst(refusal_number(e), 0, 0),
     }
@@ -233,7 +204,7 @@ pub extern "C" fn tdma_who(
 ) -> TdmaWho
     ensures { λ r. ⌜ r ≡ whoNumbers (whoOf (cellOf (now (cell .entry))) tn arfcn frame direction) ⌝ }
 {
-    match cell::who(cell, tn, arfcn, frame, direction) {
+    match onair::who(cell, tn, arfcn, frame, direction) {
         Sought::Line(line) => TdmaWho {
             refusal: 0,
             found: 1,

@@ -4,161 +4,24 @@
 pub mod buffers;
 pub mod cells;
 
-use answers::Answer;
-use answers::Refusal;
+use c_answers::TdmaHop;
+use c_answers::TdmaJoin;
+use c_answers::TdmaMap;
+use c_answers::TdmaPosition;
+use c_answers::TdmaSplit;
+use c_answers::refusal_number;
+use c_answers::split_parts;
 use clock::Frame;
 use clock::Joined;
-use clock::Prime;
 use clock::Split;
 use hopping::Hopped;
 use hopping::Positioned;
 ghost use mathlib.Core.Path.{_≡_};
 ghost use Prim.Native.Nat.{_*_, _/_, _%_, _^_, _<_};
-ghost use Rattle.answers.specs.Outcome.{accepted};
-ghost use Rattle.answers.specs.Refusals.{refusalOf, refusalIn};
 ghost use Rattle.clock.specs.Clock.{splitOf, joinOf};
 ghost use Rattle.hopping.specs.Hopping.{positionOf, hopOf};
 ghost use Rattle.frame_map.specs.Map.{mapOf};
-ghost use Rattle.tdma.specs.Numbers.{valueOf, answerNumbers, splitNumbers, joinNumbers, positionNumbers, hopNumbers, mapNumbers};
-
-// T1, T2, T3, and T3' where `given` is 1.
-#[repr(C)]
-pub struct TdmaSplit {
-    pub refusal: u32,
-    pub t1: u32,
-    pub t2: u32,
-    pub t3: u32,
-    pub given: u32,
-    pub prime: u32,
-}
-
-#[repr(C)]
-pub struct TdmaJoin {
-    pub refusal: u32,
-    pub frame: u32,
-}
-
-#[repr(C)]
-pub struct TdmaPosition {
-    pub refusal: u32,
-    pub position: u32,
-}
-
-#[repr(C)]
-pub struct TdmaHop {
-    pub refusal: u32,
-    pub arfcn: u32,
-}
-
-// The channel, 0 for idle, its subchannel, and as many blocks and places as `blocks` says. Bytes, so that the answer fits one register.
-#[repr(C)]
-pub struct TdmaMap {
-    pub refusal: u8,
-    pub channel: u8,
-    pub subchannel: u8,
-    pub blocks: u8,
-    pub block: u8,
-    pub place: u8,
-    pub block2: u8,
-    pub place2: u8,
-}
-
-// The answer of a call whose result is in the lent words or bytes: the refusal, and with 9 the line in the way, with 15 the bit that differs.
-#[repr(C)]
-pub struct TdmaAnswer {
-    pub refusal: u32,
-    pub value: u32,
-}
-
-// Document 01's number of a refusal.
-fn refusal_number(e: Refusal) -> u32
-    ensures { λ r. ⌜ r ≡ refusalOf e .number ⌝ }
-{
-    match e {
-        Refusal::CellAllocation => 1,
-        Refusal::CellParameter => 2,
-        Refusal::OutOfRange => 3,
-        Refusal::MobileAllocation => 4,
-        Refusal::Maio => 5,
-        Refusal::LineOpen => 6,
-        Refusal::LineClosed => 7,
-        Refusal::CommonChannel => 8,
-        Refusal::Clash { line: _ } => 9,
-        Refusal::NoSubchannel => 10,
-        Refusal::SubchannelHeld => 11,
-        Refusal::NotHolder => 12,
-        Refusal::LineHeld => 13,
-        Refusal::Malformed => 14,
-        Refusal::FixedBit { bit: _ } => 15,
-        Refusal::NoCommonLine => 16,
-    }
-}
-
-// The value that comes with a refusal, 0 if it comes alone.
-fn refusal_value(e: Refusal) -> u32
-    ensures { λ r. ⌜ r ≡ valueOf (refusalOf e) ⌝ }
-{
-    match e {
-        Refusal::CellAllocation => 0,
-        Refusal::CellParameter => 0,
-        Refusal::OutOfRange => 0,
-        Refusal::MobileAllocation => 0,
-        Refusal::Maio => 0,
-        Refusal::LineOpen => 0,
-        Refusal::LineClosed => 0,
-        Refusal::CommonChannel => 0,
-        Refusal::Clash { line } => line,
-        Refusal::NoSubchannel => 0,
-        Refusal::SubchannelHeld => 0,
-        Refusal::NotHolder => 0,
-        Refusal::LineHeld => 0,
-        Refusal::Malformed => 0,
-        Refusal::FixedBit { bit } => bit,
-        Refusal::NoCommonLine => 0,
-    }
-}
-
-fn answer_numbers(a: Answer) -> TdmaAnswer
-    ensures { λ r. ⌜ r ≡ answerNumbers (refusalIn a) ⌝ }
-{
-    match a {
-        Answer::Accepted => TdmaAnswer {
-            refusal: 0,
-            value: 0,
-        },
-        Answer::Refused(e) => TdmaAnswer {
-            refusal: refusal_number(e),
-            value: refusal_value(e),
-        },
-    }
-}
-
-// The answer of a frame that was split.
-fn split_parts(f: Frame) -> TdmaSplit
-    ensures { λ r. ⌜ r ≡ splitNumbers (accepted f) ⌝ }
-{
-    let t1 = f.t1;
-    let t2 = f.t2;
-    let t3 = f.t3;
-    match f.prime() {
-        Prime::Given(k) => TdmaSplit {
-            refusal: 0,
-            t1,
-            t2,
-            t3,
-            given: 1,
-            prime: k,
-        },
-        Prime::NotGiven => TdmaSplit {
-            refusal: 0,
-            t1,
-            t2,
-            t3,
-            given: 0,
-            prime: 0,
-        },
-    }
-}
+ghost use Rattle.c_answers.specs.Numbers.{splitNumbers, joinNumbers, positionNumbers, hopNumbers, mapNumbers};
 
 // FN to T1, T2, T3 and T3'.
 #[no_mangle]

@@ -6,7 +6,7 @@ use mathlib.Core.Logic.{_≢_}
 use borrow.Author.Tests.{eq-eqb, ne-eqb, lt-ltb, le-ltb}
 use Rattle.text.specs.Words.{ascii}
 use Rattle.text.specs.Print.{decimal, right}
-use Rattle.tdma.specs.declared.cells.TdmaLine.{TdmaLine}
+use Rattle.c_answers.specs.declared.TdmaLine.{TdmaLine}
 use Rattle.replies.proofs.Choices.{first, second}
 use Rattle.timetable.specs.Table.{directionText, holderText, blockText, shownText, cellText}
 

@@ -5,7 +5,7 @@ use mathlib.Core.List.{List, _++_}
 use lib.Dec.{eqb, ltb}
 use Rattle.text.specs.Words.{ascii}
 use Rattle.text.specs.Print.{decimal, right, left}
-use Rattle.tdma.specs.declared.cells.TdmaLine.{TdmaLine}
+use Rattle.c_answers.specs.declared.TdmaLine.{TdmaLine}
 use Rattle.replies.specs.Replies.{channelText}
 
 unfoldable pub directionText : ℕ → List ℕ

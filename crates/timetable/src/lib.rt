@@ -1,5 +1,5 @@
 // The parts of a timetable: its head, the titles of its columns, and in each row the frame and what each line has there.
-use tdma::cells::TdmaLine;
+use c_answers::TdmaLine;
 use text::print::put;
 use text::print::put_left;
 use text::print::put_number;

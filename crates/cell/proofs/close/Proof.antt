@@ -8,10 +8,10 @@ use borrow.Author.Tests.{lt-ltb, le-ltb}
 use Rattle.answers.specs.Outcome.{Cause}
 use Rattle.answers.specs.declared.Answer.the-variants.{Accepted}
 use Rattle.answers.proofs.Decide.{refused-by, accepted-by}
-use Rattle.cell.specs.State.{Cell, LineState, closedLine, isOpen, lineAt}
-use Rattle.cell.specs.Words.{cellOf}
-use Rattle.cell.specs.Calls.{step, changed, needed, someHeld, closeCauses, closeOf}
-use Rattle.cell.proofs.Lines.{closed-line, open-line}
+use Rattle.rules.specs.State.{Cell, LineState, closedLine, isOpen, lineAt}
+use Rattle.storage.specs.Words.{cellOf}
+use Rattle.rules.specs.Calls.{step, changed, needed, someHeld, closeCauses, closeOf}
+use Rattle.rules.proofs.Lines.{closed-line, open-line}
 use Rattle.cell.proofs.close.Statement.{statement}
 use Rattle.cell.proofs.close.Tie as tie
 

@@ -16,10 +16,10 @@ use Rattle.answers.proofs.Search.{any-least}
 use Rattle.answers.proofs.Tests.{le-not-ltb, lt-not-ltb}
 use Rattle.hopping.specs.Masks.{ones}
 use Rattle.hopping.proofs.Bits.{count-ones}
-use Rattle.cell.specs.State.{Cell, Values, isOpen, lineAt}
-use Rattle.cell.specs.Words.{cellOf}
-use Rattle.cell.specs.Calls.{Step, step, changed, openRange, noAllocation, noMaio, misplaced, inTheWay, openCauses, openOf}
-use Rattle.cell.proofs.Lines.{in-table, closed-line, open-line}
+use Rattle.rules.specs.State.{Cell, Values, isOpen, lineAt}
+use Rattle.storage.specs.Words.{cellOf}
+use Rattle.rules.specs.Calls.{Step, step, changed, openRange, noAllocation, noMaio, misplaced, inTheWay, openCauses, openOf}
+use Rattle.rules.proofs.Lines.{in-table, closed-line, open-line}
 use Rattle.cell.proofs.open.Statement.{statement}
 use Rattle.cell.proofs.open.Tie as tie
 

@@ -4,8 +4,8 @@ use mathlib.Core.Bool.{Bool, not, _||_}
 use lib.Dec.{ltb}
 use borrow.Author.Needs.{needs}
 use Rattle.answers.proofs.Decide.{any-combined}
-use Rattle.cell.specs.State.{Values}
-use Rattle.cell.specs.Calls.{openRange}
+use Rattle.rules.specs.State.{Values}
+use Rattle.rules.specs.Calls.{openRange}
 use Rattle.cell.proofs.out_of_range.Statement.{statement}
 use Rattle.cell.proofs.out_of_range.Tie as tie
 

@@ -1,5 +1,5 @@
 -- `page` meets its contract: K and whether a 5 is open are counted, and the crate `paging` answers. Assumes nothing.
-use Rattle.cell.specs.Paging.{pageOf}
+use Rattle.rules.specs.Paging.{pageOf}
 use borrow.Author.Needs.{needs}
 use Rattle.cell.proofs.page.Statement.{statement}
 use Rattle.cell.proofs.page.Tie as tie

@@ -12,11 +12,11 @@ use Rattle.answers.specs.Refusals.{refusalOf}
 use Rattle.answers.specs.declared.Answer.the-variants.{Accepted}
 use Rattle.answers.proofs.Decide.{refused-by, accepted-by}
 use Rattle.answers.proofs.Tests.{le-not-ltb, lt-not-ltb}
-use Rattle.cell.specs.State.{Cell, LineState, isOpen, lineAt}
-use Rattle.cell.specs.Words.{cellOf}
-use Rattle.cell.specs.Calls.{step, changed, badOwner, subchannels}
+use Rattle.rules.specs.State.{Cell, LineState, isOpen, lineAt}
+use Rattle.storage.specs.Words.{cellOf}
+use Rattle.rules.specs.Calls.{step, changed, badOwner, subchannels}
 use Rattle.cell.specs.Helpers.{passCauses, passOf}
-use Rattle.cell.proofs.Lines.{in-table, closed-line, open-line, has-room}
+use Rattle.rules.proofs.Lines.{in-table, closed-line, open-line, has-room}
 use Rattle.cell.proofs.pass.Statement.{statement}
 use Rattle.cell.proofs.pass.Tie as tie
 

@@ -1,7 +1,7 @@
 -- `refuse_start` meets its contract: the cell of ARFCN 0 is put. Assumes nothing.
 use mathlib.Core.Path.{ap}
 use Rattle.answers.specs.declared.Answer.the-variants.{Refused}
-use Rattle.cell.specs.Calls.{changed}
+use Rattle.rules.specs.Calls.{changed}
 use borrow.Author.Needs.{needs}
 use Rattle.cell.proofs.refuse_start.Statement.{statement}
 use Rattle.cell.proofs.refuse_start.Tie as tie

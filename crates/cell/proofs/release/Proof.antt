@@ -1,5 +1,5 @@
 -- `release` meets its contract: the owner passes it on to 0. Assumes nothing.
-use Rattle.cell.specs.Calls.{releaseOf}
+use Rattle.rules.specs.Calls.{releaseOf}
 use Rattle.cell.specs.Helpers.{passOf}
 use borrow.Author.Needs.{needs}
 use Rattle.cell.proofs.release.Statement.{statement}

@@ -1,5 +1,5 @@
 -- `seize` meets its contract: free is the owner 0. Assumes nothing.
-use Rattle.cell.specs.Calls.{seizeOf}
+use Rattle.rules.specs.Calls.{seizeOf}
 use Rattle.cell.specs.Helpers.{passOf}
 use borrow.Author.Needs.{needs}
 use Rattle.cell.proofs.seize.Statement.{statement}

@@ -13,7 +13,7 @@ use Rattle.answers.proofs.Decide.{refused-by, accepted-by}
 use Rattle.answers.proofs.Search.{any-least}
 use Rattle.hopping.specs.Allocation.{isAllocation}
 use Rattle.hopping.proofs.Apart.{at-most-64}
-use Rattle.cell.specs.Calls.{step, changed, lists, startCauses, refusedCell, startOf}
+use Rattle.rules.specs.Calls.{step, changed, lists, startCauses, refusedCell, startOf}
 use Rattle.cell.proofs.start.Statement.{statement}
 use Rattle.cell.proofs.start.Tie as tie
 

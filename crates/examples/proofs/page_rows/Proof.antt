@@ -1,7 +1,7 @@
 -- `page_rows` meets its contract: each check follows from what the question promises and the sheet's row. Assumes nothing.
 use Rattle.frame_map.specs.Numbers.{standingNumbers}
 use Rattle.tdma.specs.Cells.{pageNumbers}
-use Rattle.cell.specs.Paging.{pageOf}
+use Rattle.rules.specs.Paging.{pageOf}
 use Rattle.examples.specs.DrillSheet.{imsi}
 use Rattle.examples.proofs.Drill.{drill-sheet}
 use Rattle.examples.proofs.Checks.{on-cell, on-line}

@@ -1,6 +1,6 @@
 -- `traffic` meets its contract: each call is accepted, and the last leaves the definition's cell. Assumes nothing.
 use lib.ListN.{drop}
-use Rattle.cell.specs.Words.{cellOf}
+use Rattle.storage.specs.Words.{cellOf}
 use Rattle.examples.specs.DrillSheet.{empty, calls, traffic}
 use Rattle.examples.proofs.Drill.{drill-sheet}
 use Rattle.examples.proofs.Checks.{told, nones, Remaining, started, called, next-accepted, ended}

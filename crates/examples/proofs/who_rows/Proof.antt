@@ -2,7 +2,7 @@
 use mathlib.Core.Path.{_≡_, ap, _∙_}
 use Rattle.frame_map.specs.Numbers.{standingNumbers}
 use Rattle.tdma.specs.Cells.{matchNumbers, nobody, whoNumbers}
-use Rattle.cell.specs.Who.{whoOf}
+use Rattle.rules.specs.Who.{whoOf}
 use Rattle.examples.specs.DrillSheet.{cyclicSlot}
 use Rattle.examples.proofs.Drill.{drill-sheet}
 use Rattle.examples.proofs.Checks.{on-cell, who-numbers}

@@ -3,8 +3,8 @@ use Prim.Native.Nat.{ℕ}
 use mathlib.Core.Path.{sym, ap, _∙_}
 use borrow.Author.Needs.{needs}
 use Rattle.hopping.specs.Hopping.{hopSays}
-use Rattle.tdma.specs.Numbers.{hopNumbers}
-use Rattle.tdma.specs.declared.TdmaHop.{TdmaHop}
+use Rattle.c_answers.specs.Numbers.{hopNumbers}
+use Rattle.c_answers.specs.declared.TdmaHop.{TdmaHop}
 use Rattle.tdma.proofs.tdma_hop.Statement.{statement}
 use Rattle.tdma.proofs.tdma_hop.Tie as tie
 

@@ -3,8 +3,8 @@ use Prim.Native.Nat.{ℕ}
 use mathlib.Core.Path.{sym, ap, _∙_}
 use borrow.Author.Needs.{needs}
 use Rattle.clock.specs.Clock.{joinSays}
-use Rattle.tdma.specs.Numbers.{joinNumbers}
-use Rattle.tdma.specs.declared.TdmaJoin.{TdmaJoin}
+use Rattle.c_answers.specs.Numbers.{joinNumbers}
+use Rattle.c_answers.specs.declared.TdmaJoin.{TdmaJoin}
 use Rattle.tdma.proofs.tdma_join.Statement.{statement}
 use Rattle.tdma.proofs.tdma_join.Tie as tie
 

@@ -3,7 +3,7 @@ use mathlib.Core.Path.{ap, _∙_}
 use Rattle.frame_map.proofs.Unpacked.{numbers, eight}
 use Rattle.frame_map.specs.Codes.{numbersAt}
 use Rattle.frame_map.proofs.Range.{map-numbers}
-use Rattle.tdma.specs.Numbers.{mapFields}
+use Rattle.c_answers.specs.Numbers.{mapFields}
 use borrow.Author.Needs.{needs}
 use Rattle.tdma.proofs.tdma_map.Statement.{statement}
 use Rattle.tdma.proofs.tdma_map.Tie as tie

@@ -3,8 +3,8 @@ use Prim.Native.Nat.{ℕ}
 use mathlib.Core.Path.{sym, ap, _∙_}
 use borrow.Author.Needs.{needs}
 use Rattle.hopping.specs.Hopping.{positionSays}
-use Rattle.tdma.specs.Numbers.{positionNumbers}
-use Rattle.tdma.specs.declared.TdmaPosition.{TdmaPosition}
+use Rattle.c_answers.specs.Numbers.{positionNumbers}
+use Rattle.c_answers.specs.declared.TdmaPosition.{TdmaPosition}
 use Rattle.tdma.proofs.tdma_position.Statement.{statement}
 use Rattle.tdma.proofs.tdma_position.Tie as tie
 

@@ -3,8 +3,8 @@ use Prim.Native.Nat.{ℕ}
 use mathlib.Core.Path.{sym, ap, _∙_}
 use borrow.Author.Needs.{needs}
 use Rattle.clock.specs.Clock.{splitSays}
-use Rattle.tdma.specs.Numbers.{splitNumbers}
-use Rattle.tdma.specs.declared.TdmaSplit.{TdmaSplit}
+use Rattle.c_answers.specs.Numbers.{splitNumbers}
+use Rattle.c_answers.specs.declared.TdmaSplit.{TdmaSplit}
 use Rattle.tdma.proofs.tdma_split.Statement.{statement}
 use Rattle.tdma.proofs.tdma_split.Tie as tie
 

@@ -8,8 +8,8 @@ use borrow.Author.Count.{below-none, below-more}
 use borrow.Author.Needs.{needs}
 use borrow.Author.Tests.{eq-eqb, ne-eqb}
 use Rattle.answers.proofs.Search.{any-at, any-none}
-use Rattle.cell.specs.State.{lineAt, ownerAt}
-use Rattle.cell.specs.Words.{cellOf}
+use Rattle.rules.specs.State.{lineAt, ownerAt}
+use Rattle.storage.specs.Words.{cellOf}
 use Rattle.cell.proofs.subchannels.some_held.Statement.{statement}
 use Rattle.cell.proofs.subchannels.some_held.Tie as tie
 

@@ -9,7 +9,7 @@ use Rattle.frame_map.specs.declared.Place.{Place}
 use Rattle.frame_map.specs.Channels.{kindNumber}
 use Rattle.frame_map.specs.Map.{inBlocks}
 use Rattle.frame_map.specs.Numbers.{standingNumbers}
-use Rattle.tdma.specs.declared.cells.TdmaLine.{TdmaLine}
+use Rattle.c_answers.specs.declared.TdmaLine.{TdmaLine}
 use Rattle.tdma.specs.Cells.{lineFields}
 use Rattle.tdma.proofs.cells.burst_numbers.Statement.{statement}
 use Rattle.tdma.proofs.cells.burst_numbers.Tie as tie

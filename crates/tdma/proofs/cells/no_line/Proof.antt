@@ -1,6 +1,6 @@
 -- `no_line` meets its contract: nobody, with a refusal or without. Assumes nothing.
 use mathlib.Core.Path.{ap}
-use Rattle.tdma.specs.declared.cells.TdmaLine.{TdmaLine}
+use Rattle.c_answers.specs.declared.TdmaLine.{TdmaLine}
 use borrow.Author.Needs.{needs}
 use Rattle.tdma.proofs.cells.no_line.Statement.{statement}
 use Rattle.tdma.proofs.cells.no_line.Tie as tie

@@ -5,7 +5,7 @@ use borrow.Author.Needs.{needs}
 use Rattle.frame_map.specs.declared.Content.{Content}
 use Rattle.frame_map.specs.Map.{carried}
 use Rattle.frame_map.specs.Numbers.{standingNumbers}
-use Rattle.tdma.specs.declared.cells.TdmaLine.{TdmaLine}
+use Rattle.c_answers.specs.declared.TdmaLine.{TdmaLine}
 use Rattle.tdma.specs.Cells.{lineFields}
 use Rattle.tdma.proofs.cells.slot_numbers.Statement.{statement}
 use Rattle.tdma.proofs.cells.slot_numbers.Tie as tie

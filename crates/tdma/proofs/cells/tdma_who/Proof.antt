@@ -1,8 +1,9 @@
 -- `cells::tdma_who` meets its contract: the line of `cell::who`, and the answer of `tdma_line` for it. Assumes nothing.
 use mathlib.Core.Path.{sym, ap, _∙_}
 use Rattle.answers.specs.Refusals.{refusalOf}
-use Rattle.cell.specs.Words.{cellOf}
-use Rattle.cell.specs.Who.{whoOf, sought}
+use Rattle.storage.specs.Words.{cellOf}
+use Rattle.rules.specs.Who.{whoOf}
+use Rattle.onair.specs.Told.{sought}
 use Rattle.tdma.proofs.Sought.{line-found, nobody-found, who-refused}
 use borrow.Author.Needs.{needs}
 use Rattle.tdma.proofs.cells.tdma_who.Statement.{statement}

@@ -1,0 +1,17 @@
+pub mod Lines
+pub mod Tabulate
+pub mod History
+pub mod AsListed
+pub mod Sound
+pub mod Places
+pub mod SubchannelRows
+pub mod LineAnswer
+pub mod Shown
+pub mod Begun
+pub mod CollisionFree
+pub mod ExampleRun
+pub mod Causes
+pub mod Known
+pub mod WhoAndLine
+pub mod CommonLines
+pub mod PageAndLine

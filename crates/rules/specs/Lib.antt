@@ -1,0 +1,10 @@
+pub mod Calls
+pub mod Carried
+pub mod CollisionFree
+pub mod ExampleRun
+pub mod History
+pub mod OnAir
+pub mod Paging
+pub mod Reached
+pub mod State
+pub mod Who

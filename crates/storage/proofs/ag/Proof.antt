@@ -1,0 +1,15 @@
+-- `words::ag` meets its contract: it is that word. Assumes nothing.
+use borrow.Author.Needs.{needs}
+use Rattle.storage.specs.Words.{cellOf}
+use Rattle.storage.proofs.ag.Statement.{statement}
+use Rattle.storage.proofs.ag.Tie as tie
+
+element-copy-out-result : tie.Need-element-copy-out-result
+element-copy-out-result c = search needs
+
+returns : tie.Need-returns
+unfolding cellOf
+returns c = search needs
+
+pub ag-spec : {M : Type 1} → statement M
+ag-spec = tie.close (tie.spec element-copy-out-result returns)

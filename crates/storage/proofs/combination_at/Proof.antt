@@ -1,0 +1,20 @@
+-- `words::combination_at` meets its contract: it is a word of line n. Assumes nothing.
+use mathlib.Core.Path.{sym, ap, _∙_}
+use borrow.Author.Needs.{needs}
+use Rattle.rules.specs.State.{LineState}
+use Rattle.storage.specs.Words.{lineIn}
+use Rattle.storage.proofs.Storage.{line-at}
+use Rattle.storage.proofs.combination_at.Statement.{statement}
+use Rattle.storage.proofs.combination_at.Tie as tie
+
+value-requires : tie.Need-value-requires
+value-requires c κs = search needs
+
+returns : tie.Need-returns
+unfolding lineIn
+returns c =
+    let x = c .before .args in
+    c .value .ensures ∙ sym (ap (λ (l : LineState). l .combination) (line-at (x .cell .now) (x .n) (search needs)))
+
+pub combination-at-spec : {M : Type 1} → statement M
+combination-at-spec = tie.close (tie.spec value-requires returns)

@@ -1,0 +1,15 @@
+-- `words::length` meets its contract: it is that word. Assumes nothing.
+use borrow.Author.Needs.{needs}
+use Rattle.storage.specs.Words.{cellOf}
+use Rattle.storage.proofs.length.Statement.{statement}
+use Rattle.storage.proofs.length.Tie as tie
+
+element-copy-out-result : tie.Need-element-copy-out-result
+element-copy-out-result c = search needs
+
+returns : tie.Need-returns
+unfolding cellOf
+returns c = search needs
+
+pub length-spec : {M : Type 1} → statement M
+length-spec = tie.close (tie.spec element-copy-out-result returns)
