@@ -1,7 +1,6 @@
-// The cell: its table of lines, and the calls on it. Document 01, "The cell and its calls" and "Paging". A cell is an array of words that the caller
-// lends; words.rt alone knows what stands where. common.rt has the places of common channels (refusal 8) and their count, clash.rt the line that
-// stands in the way (9), subchannels.rt the subchannels of a line, air.rt what a line sends in a frame, seek.rt the line that has an ARFCN,
-// allocation.rt the search in a cell allocation.
+// The calls on a cell: start, open, close, seize, release and page. Document 01, "The cell and its calls" and "Paging". The cell is the words that the
+// caller lends, which `storage` reads and writes; `placing` has the tests of refusals 8 and 9, `onair` the calls line and who. allocation.rt has the
+// search in a cell allocation, subchannels.rt the subchannels of a line.
 mod allocation;
 mod subchannels;
 

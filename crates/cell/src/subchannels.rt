@@ -2,7 +2,6 @@
 use storage::WORDS;
 use storage::owner_at;
 ghost use mathlib.Core.Path.{_≡_};
-ghost use Prim.Native.Nat.{_<_};
 ghost use Rattle.rules.specs.Calls.{badOwner, subchannels, someHeld};
 ghost use Rattle.rules.specs.State.{lineAt};
 ghost use Rattle.storage.specs.Words.{cellOf};
@@ -30,7 +29,6 @@ pub(crate) fn subchannels(combination: u32) -> u32
 
 // Some subchannel of line n is held.
 pub(crate) fn some_held(cell: &[u32; WORDS], n: usize) -> bool
-    requires { ⌜ n < 64 ⌝ }
     ensures { λ r. ⌜ r ≡ someHeld (lineAt (cellOf (now (cell .entry))) n) ⌝ }
 {
     let mut s = 0;

@@ -14,7 +14,6 @@ use storage::mask_at;
 use storage::owner_at;
 use storage::tn_at;
 ghost use mathlib.Core.Path.{_≡_};
-ghost use Prim.Native.Nat.{_<_};
 ghost use Rattle.frame_map.specs.Channels.{isCommon};
 ghost use Rattle.frame_map.specs.Map.{mapOf, carried};
 ghost use Rattle.rules.specs.OnAir.{arfcnIn, inFrame, ownerOf, slotOf};
@@ -24,7 +23,6 @@ ghost use Rattle.storage.specs.Words.{cellOf};
 
 // The CA entry at the position of line n.
 pub(crate) fn arfcn(cell: &[u32; WORDS], n: usize, number: u32) -> u32
-    requires { ⌜ n < 64 ⌝ }
     ensures { λ r. ⌜ r ≡ arfcnIn (cellOf (now (cell .entry))) (lineAt (cellOf (now (cell .entry))) n) number ⌝ }
 {
     let mask = mask_at(cell, n);
@@ -67,7 +65,6 @@ fn is_common(kind: Kind) -> bool
 
 // The owner of what stands in the frame, of line n.
 fn owner(cell: &[u32; WORDS], n: usize, content: Content) -> u32
-    requires { ⌜ n < 64 ⌝ }
     ensures { λ r. ⌜ r ≡ ownerOf (ownerAt (lineAt (cellOf (now (cell .entry))) n)) (carried content) ⌝ }
 {
     let Content::Channel(burst) = content else {
@@ -82,7 +79,6 @@ fn owner(cell: &[u32; WORDS], n: usize, content: Content) -> u32
 
 // What line n of the cell sends.
 pub(crate) fn on_air(cell: &[u32; WORDS], n: usize, number: u32, direction: u32) -> OnAir
-    requires { ⌜ n < 64 ⌝ }
     ensures { λ r. ⌜ slotIn r ≡ slotOf (cellOf (now (cell .entry))) (lineAt (cellOf (now (cell .entry))) n) number direction ⌝ }
 {
     let content = content(combination_at(cell, n), tn_at(cell, n), number, direction);

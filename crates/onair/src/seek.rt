@@ -4,14 +4,12 @@ use storage::WORDS;
 use storage::combination_at;
 use storage::tn_at;
 ghost use mathlib.Core.Path.{_≡_};
-ghost use Prim.Native.Nat.{_<_};
 ghost use Rattle.answers.specs.Search.{least};
 ghost use Rattle.rules.specs.Who.{lineIsOn};
 ghost use Rattle.storage.specs.Words.{cellOf};
 
 // Line n is open, stands in the timeslot and has the ARFCN `sought` in the frame.
 fn is_on(cell: &[u32; WORDS], n: usize, tn: u32, sought: u32, number: u32) -> bool
-    requires { ⌜ n < 64 ⌝ }
     ensures { λ r. ⌜ r ≡ lineIsOn (cellOf (now (cell .entry))) tn sought number n ⌝ }
 {
     if combination_at(cell, n) == 0 {

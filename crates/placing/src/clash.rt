@@ -7,14 +7,12 @@ use storage::maio_at;
 use storage::mask_at;
 use storage::tn_at;
 ghost use mathlib.Core.Path.{_≡_};
-ghost use Prim.Native.Nat.{_<_};
 ghost use Rattle.answers.specs.Search.{least};
 ghost use Rattle.rules.specs.Calls.{inTheWay};
 ghost use Rattle.storage.specs.Words.{cellOf};
 
 // Line n is open and clashes with these values.
 fn clashes(cell: &[u32; WORDS], n: usize, tn: u32, mask: u64, hsn: u32, maio: u32) -> bool
-    requires { ⌜ n < 64 ⌝ }
     ensures { λ r. ⌜ r ≡ inTheWay (cellOf (now (cell .entry))) (record { tn = tn; mask = mask; hsn = hsn; maio = maio; combination = 0; tsc = 0 }) n ⌝ }
 {
     let line_mask = mask_at(cell, n);

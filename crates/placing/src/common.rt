@@ -9,7 +9,7 @@ use storage::entry;
 use storage::tn_at;
 ghost use mathlib.Core.Bool.{cond};
 ghost use mathlib.Core.Path.{_≡_};
-ghost use Prim.Native.Nat.{_-_, _<_};
+ghost use Prim.Native.Nat.{_-_};
 ghost use Rattle.answers.specs.Outcome.{anyOf};
 ghost use Rattle.rules.specs.Calls.{anyLine, hasCombination, misplaced, isCommonCombination, hasC0, c0Alone, needed};
 ghost use Rattle.placing.specs.Helpers.{wants};
@@ -41,7 +41,6 @@ fn is_common_combination(combination: u32) -> bool
 
 // Line n is wanted.
 fn is_wanted(cell: &[u32; WORDS], n: usize, w: Wanted) -> bool
-    requires { ⌜ n < 64 ⌝ }
     ensures { λ r. ⌜ r ≡ wants w (lineAt (cellOf (now (cell .entry))) n) ⌝ }
 {
     let combination = combination_at(cell, n);
@@ -124,7 +123,6 @@ pub fn misplaced(cell: &[u32; WORDS], tn: u32, mask: u64, combination: u32, tsc:
 
 // Line n is a 4 or 6 while a 6 is open two timeslots higher.
 pub fn needed(cell: &[u32; WORDS], n: usize) -> bool
-    requires { ⌜ n < 64 ⌝ }
     ensures { λ r. ⌜ r ≡ needed (cellOf (now (cell .entry))) (lineAt (cellOf (now (cell .entry))) n) ⌝ }
 {
     let combination = combination_at(cell, n);

@@ -1,18 +1,13 @@
--- What the calls' tests show of a line: that it is in the table, that it is open or closed, and that a subchannel has room; and what it sends, by its parts. Assumes nothing.
-use Prim.Native.Nat.{ℕ, _≤_, _<_}
+-- What the calls' tests show of a line: that it is open or closed, and that a subchannel has room; and what it sends, by its parts. Assumes nothing.
+use Prim.Native.Nat.{ℕ, _≤_}
 use mathlib.Core.Path.{_≡_, sym, ap, _∙_}
 use mathlib.Core.Bool.{Bool, true, false, not, _&&_, _||_, cond}
 use mathlib.Core.List.{List}
-use native.Mathlib.Omega.{arith}
-use lib.Dec.{ltb, eqb, lit≤}
-use borrow.Author.Tests.{ltb-false, eq-eqb, ne-eqb}
-use Rattle.answers.proofs.Tests.{or-none-left}
+use lib.Dec.{eqb, lit≤}
+use borrow.Author.Tests.{eq-eqb, ne-eqb}
 use Rattle.frame_map.specs.Channels.{Standing}
 use Rattle.rules.specs.Calls.{subchannels}
 use Rattle.rules.specs.OnAir.{Slot}
-
-pub in-table : (n : ℕ) (other : Bool) → (ltb 63 n || other) ≡ false → n < 64
-in-table n other h = let l : n ≤ 63 = ltb-false 63 n (or-none-left (ltb 63 n) other h) in omega arith
 
 -- a line of combination 0 is closed, any other is open: `isOpen` of the combination
 pub closed-line : {combination : ℕ} → combination ≡ 0 → not (eqb combination 0) ≡ false

@@ -1,18 +1,21 @@
 -- Laws of the words that hold a cell: what is read of a line, and what a change of one line's words leaves. Assumes nothing.
 use Prim.Native.Nat.{ℕ, zero, suc, _+_, _*_, _-_, _/_, _%_, _^_, _<_, _≤_}
 use mathlib.Core.Path.{_≡_, refl, sym, ap, subst, _∙_}
+use mathlib.Core.Bool.{Bool, true, false, cond}
 use mathlib.Core.List.{List, [], _∷_}
 use mathlib.Core.Logic.{_⊎_, inl, inr, ⊎-elim}
 use native.Mathlib.Nat.{zero-add}
 use native.Mathlib.Decide.{decLt}
+use lib.Dec.{ltb, lit≤}
 use native.Mathlib.Omega.{arith}
 use lib.ListN.{length, getD, set, length-set, List·getD-eq-default}
-use lib.Seq.{ext-getD, getD-set-same, getD-set-other}
+use lib.Seq.{ext-getD, set-out, set-getD, getD-set-same, getD-set-other}
 use borrow.Author.Count.{below-none, below-more}
+use borrow.Author.Tests.{lt-ltb, le-ltb}
 use Rattle.rules.specs.State.{LineState, Cell, Values, tabulate, lineWith, free, closedLine, lineAt, ownerAt, empty}
 use Rattle.rules.specs.Calls.{withLine, withOwner}
 use Rattle.storage.specs.Words.{word, placeOf, lineIn, cellOf, Stored, SameWords}
-use Rattle.storage.specs.Helpers.{Fills}
+use Rattle.storage.specs.Helpers.{lineWord, Fills, startedFrom}
 use Rattle.rules.proofs.Tabulate.{tabulate-at, tabulate-same, tabulate-set, tabulate-length}
 
 -- ---- what is read
@@ -29,19 +32,83 @@ pub entry-past : (words : List ℕ) (k : ℕ) → 64 ≤ k → getD (cellOf word
 unfolding cellOf
 entry-past words k h = List·getD-eq-default (tabulate 64 (word words)) 0 (subst (λ (n : ℕ). n ≤ k) (sym (tabulate-length 64 (word words))) h)
 
-module _ (words : List ℕ) (n s : ℕ) (h : n < 64) where
+module _ (words : List ℕ) (n : ℕ) where
+  -- what a read past the last line gives
+  abbrev no-line : LineState
+  no-line = record { mask = 0; tn = 0; hsn = 0; maio = 0; combination = 0; tsc = 0; owners = [] }
+
+  line-past : 63 < n → lineAt (cellOf words) n ≡ no-line
+  unfolding cellOf
+  line-past h = List·getD-eq-default (tabulate 64 (lineIn words)) no-line (subst (λ (k : ℕ). k ≤ n) (sym (tabulate-length 64 (lineIn words))) h)
+
+  -- the readers of a line's words, on both sides of the last line
+  pub word-past : (k : ℕ) → 63 < n → 0 ≡ lineWord words n k
+  word-past k h = sym (ap (λ (t : Bool). cond t 0 (word words (placeOf n + k))) (lt-ltb 63 n h))
+
+  pub word-in : (k : ℕ) → n ≤ 63 → word words (placeOf n + k) ≡ lineWord words n k
+  word-in k h = sym (ap (λ (t : Bool). cond t 0 (word words (placeOf n + k))) (le-ltb 63 n h))
+
+  -- a number of a line: of the line's words, or 0 past the last line
+  pub line-number : (f : LineState → ℕ) (g : ℕ) → f no-line ≡ 0 → f (lineIn words n) ≡ g → f (lineAt (cellOf words) n) ≡ cond (ltb 63 n) 0 g
+  line-number f g z e = go (decLt 63 n)
+    where
+      go : Dec (63 < n) → f (lineAt (cellOf words) n) ≡ cond (ltb 63 n) 0 g
+      go (yes h) = ap f (line-past h) ∙ z ∙ sym (ap (λ (t : Bool). cond t 0 g) (lt-ltb 63 n h))
+      go (no h) = let b : n < 64 = omega arith in ap f (line-at words n b) ∙ e ∙ sym (ap (λ (t : Bool). cond t 0 g) (le-ltb 63 n (omega arith)))
+
+  -- a mask by its halves
+  pub line-mask : lineAt (cellOf words) n .mask ≡ lineWord words n 0 + 2 ^ 32 * lineWord words n 1
+  unfolding lineIn
+  line-mask = line-number (λ l. l .mask) (word words (placeOf n + 0) + 2 ^ 32 * word words (placeOf n + 1)) refl refl ∙ go (ltb 63 n)
+    where
+      go : (t : Bool) → cond t 0 (word words (placeOf n + 0) + 2 ^ 32 * word words (placeOf n + 1)) ≡ cond t 0 (word words (placeOf n + 0)) + 2 ^ 32 * cond t 0 (word words (placeOf n + 1))
+      go true = refl
+      go false = refl
+
   abbrev owners : ℕ → ℕ
   owners k = word words (placeOf n + (7 + k))
 
-  pub owner-in : s < 8 → ownerAt (lineAt (cellOf words) n) s ≡ owners s
+  pub owner-in : (s : ℕ) → s < 8 → ownerAt (lineAt (cellOf words) n) s ≡ lineWord words n (7 + s)
   unfolding lineIn
-  owner-in b = ap (λ (l : LineState). ownerAt l s) (line-at words n h) ∙ tabulate-at 8 owners 0 s b
+  owner-in s b = line-number (λ l. ownerAt l s) (owners s) refl (tabulate-at 8 owners 0 s b)
 
-  pub owner-past : 8 ≤ s → ownerAt (lineAt (cellOf words) n) s ≡ 0
+  pub owner-past : (s : ℕ) → 8 ≤ s → ownerAt (lineAt (cellOf words) n) s ≡ 0
   unfolding lineIn
-  owner-past b =
-      ap (λ (l : LineState). ownerAt l s) (line-at words n h)
-      ∙ List·getD-eq-default (tabulate 8 owners) 0 (subst (λ (k : ℕ). k ≤ s) (sym (tabulate-length 8 owners)) b)
+  owner-past s b =
+      line-number (λ l. ownerAt l s) 0 refl (List·getD-eq-default (tabulate 8 owners) 0 (subst (λ (k : ℕ). k ≤ s) (sym (tabulate-length 8 owners)) b))
+      ∙ go (ltb 63 n)
+    where
+      go : (t : Bool) → cond {A = ℕ} t 0 0 ≡ 0
+      go true = refl
+      go false = refl
+
+  -- with another line past the last one, or another owner past the last subchannel, the cell is the same
+  abbrev with-lines : List LineState → Cell
+  with-lines lines =
+      record { ca = cellOf words .ca; length = cellOf words .length; c0 = cellOf words .c0; bcc = cellOf words .bcc; ag = cellOf words .ag; p = cellOf words .p; lines = lines }
+
+  pub no-such-line : (l : LineState) → 63 < n → cellOf words ≡ withLine (cellOf words) n l
+  unfolding cellOf
+  no-such-line l h = ap with-lines (sym (set-out (tabulate 64 (lineIn words)) n l (subst (λ (k : ℕ). k ≤ n) (sym (tabulate-length 64 (lineIn words))) h)))
+
+  pub no-such-owner : (s o : ℕ) → 7 < s → cellOf words ≡ withLine (cellOf words) n (withOwner (lineAt (cellOf words) n) s o)
+  unfolding lineIn
+  no-such-owner s o h = ap with-lines (sym (ap (set (cellOf words .lines) n) same ∙ set-getD (cellOf words .lines) n no-line))
+    where
+      l : LineState
+      l = lineAt (cellOf words) n
+
+      at-most-8 : (t : Bool) → cond {A = ℕ} t 0 8 ≤ 8
+      at-most-8 true = lit≤ {m = 0} {n = 8} tt
+      at-most-8 false = lit≤ {m = 8} {n = 8} tt
+
+      count : length (l .owners) ≡ cond (ltb 63 n) 0 8
+      count = line-number (λ l. length (l .owners)) 8 refl (tabulate-length 8 owners)
+
+      same : withOwner l s o ≡ l
+      same =
+          ap {B = LineState} (λ (os : List ℕ). record { mask = l .mask; tn = l .tn; hsn = l .hsn; maio = l .maio; combination = l .combination; tsc = l .tsc; owners = os })
+          (set-out (l .owners) s o (let m = at-most-8 (ltb 63 n) in omega (arith, count, m)))
 
 -- ---- equal words
 
@@ -238,6 +305,14 @@ module _ (v w u ca : List ℕ) (c0 bcc ag p : ℕ) (f : Fills 0 64 (word ca) v w
       getD-set-other with-ag 68 64 p 0 (λ z. omega arith) ∙ getD-set-other with-bcc 67 64 ag 0 (λ z. omega arith) ∙ getD-set-other with-c0 66 64 bcc 0 (λ z. omega arith)
       ∙ getD-set-other with-length 65 64 c0 0 (λ z. omega arith) ∙ getD-set-same u 64 (length ca) 0 (omega (arith, long)) in
       cc
+
+-- a list of more than 64 entries is not put
+module _ (before : Cell) (ca : List ℕ) (c0 bcc ag p : ℕ) where
+  pub start-long : 64 < length ca → before ≡ startedFrom before ca c0 bcc ag p
+  start-long h = sym (ap (λ (t : Bool). cond t before (empty ca c0 bcc ag p)) (lt-ltb 64 (length ca) h))
+
+  pub start-put : length ca ≤ 64 → empty ca c0 bcc ag p ≡ startedFrom before ca c0 bcc ag p
+  start-put h = sym (ap (λ (t : Bool). cond t before (empty ca c0 bcc ag p)) (le-ltb 64 (length ca) h))
 
 -- ---- storage that holds one cell is the same in every word
 

@@ -6,9 +6,9 @@ ghost use Prim.Native.Nat.{_+_, _*_, _/_, _%_, _^_, _<_, _≤_};
 ghost use Rattle.rules.specs.State.{lineWith, free, lineAt, ownerAt, empty};
 ghost use Rattle.rules.specs.Calls.{withLine, withOwner};
 ghost use Rattle.storage.specs.Words.{word, placeOf, cellOf};
-ghost use Rattle.storage.specs.Helpers.{Fills};
+ghost use Rattle.storage.specs.Helpers.{lineWord, Fills, startedFrom};
 
-// How many words a cell takes. What writes takes them as a slice: the length is then known by the contract.
+// How many words a cell takes. What writes takes them as a slice, whose length its contract can ask for.
 pub const WORDS: usize = 1029;
 
 // The CA entry at a position, 0 past the end.
@@ -51,11 +51,14 @@ pub fn p(cell: &[u32; WORDS]) -> u32
     cell[68]
 }
 
-// Word k of line n.
+// Word k of line n, 0 past the last line.
 fn value(cell: &[u32; WORDS], n: usize, k: usize) -> u32
-    requires { ⌜ (n < 64) × (k < 15) ⌝ }
-    ensures { λ r. ⌜ r ≡ word (now (cell .entry)) (placeOf n + k) ⌝ }
+    requires { ⌜ k < 15 ⌝ }
+    ensures { λ r. ⌜ r ≡ lineWord (now (cell .entry)) n k ⌝ }
 {
+    if n > 63 {
+        return 0;
+    }
     cell[69 + 15 * n + k]
 }
 
@@ -65,36 +68,32 @@ fn joined(low: u32, high: u32) -> u64
     low as u64 + ((high as u64) << 32)
 }
 
+// The readers of a line give 0 past the last line.
 pub fn mask_at(cell: &[u32; WORDS], n: usize) -> u64
-    requires { ⌜ n < 64 ⌝ }
     ensures { λ r. ⌜ r ≡ lineAt (cellOf (now (cell .entry))) n .mask ⌝ }
 {
     joined(value(cell, n, 0), value(cell, n, 1))
 }
 
 pub fn tn_at(cell: &[u32; WORDS], n: usize) -> u32
-    requires { ⌜ n < 64 ⌝ }
     ensures { λ r. ⌜ r ≡ lineAt (cellOf (now (cell .entry))) n .tn ⌝ }
 {
     value(cell, n, 2)
 }
 
 pub fn hsn_at(cell: &[u32; WORDS], n: usize) -> u32
-    requires { ⌜ n < 64 ⌝ }
     ensures { λ r. ⌜ r ≡ lineAt (cellOf (now (cell .entry))) n .hsn ⌝ }
 {
     value(cell, n, 3)
 }
 
 pub fn maio_at(cell: &[u32; WORDS], n: usize) -> u32
-    requires { ⌜ n < 64 ⌝ }
     ensures { λ r. ⌜ r ≡ lineAt (cellOf (now (cell .entry))) n .maio ⌝ }
 {
     value(cell, n, 4)
 }
 
 pub fn combination_at(cell: &[u32; WORDS], n: usize) -> u32
-    requires { ⌜ n < 64 ⌝ }
     ensures { λ r. ⌜ r ≡ lineAt (cellOf (now (cell .entry))) n .combination ⌝ }
 {
     value(cell, n, 5)
@@ -102,7 +101,6 @@ pub fn combination_at(cell: &[u32; WORDS], n: usize) -> u32
 
 // The owner of a subchannel of line n, 0 for free, and past the last one.
 pub fn owner_at(cell: &[u32; WORDS], n: usize, s: u32) -> u32
-    requires { ⌜ n < 64 ⌝ }
     ensures { λ r. ⌜ r ≡ ownerAt (lineAt (cellOf (now (cell .entry))) n) s ⌝ }
 {
     if s > 7 {
@@ -111,12 +109,24 @@ pub fn owner_at(cell: &[u32; WORDS], n: usize, s: u32) -> u32
     value(cell, n, 7 + s as usize)
 }
 
-// Subchannel s of line n gets an owner.
-pub fn put_owner(cell: &mut [u32], n: usize, s: u32, owner: u32)
+fn write_owner(cell: &mut [u32], n: usize, s: u32, owner: u32)
     requires { ⌜ (length (now cell) ≡ 1029) × (n < 64) × (s < 8) ⌝ }
     ensures { λ _. ⌜ cellOf (now (cell .exit)) ≡ withLine (cellOf (now (cell .entry))) n (withOwner (lineAt (cellOf (now (cell .entry))) n) s owner) ⌝ }
 {
     cell[69 + 15 * n + (7 + s as usize)] = owner;
+}
+
+// Subchannel s of line n gets an owner; nothing is written past the last line or subchannel.
+pub fn put_owner(cell: &mut [u32; WORDS], n: usize, s: u32, owner: u32)
+    ensures { λ _. ⌜ cellOf (now (cell .exit)) ≡ withLine (cellOf (now (cell .entry))) n (withOwner (lineAt (cellOf (now (cell .entry))) n) s owner) ⌝ }
+{
+    if n > 63 {
+        return;
+    }
+    if s > 7 {
+        return;
+    }
+    write_owner(cell, n, s, owner);
 }
 
 fn low_half(mask: u64) -> u32
@@ -143,8 +153,7 @@ fn put_words(cell: &mut [u32], n: usize, words: [u32; 15])
     }
 }
 
-// Line n gets the six values, and no owners.
-pub fn put_line(
+fn write_line(
     cell: &mut [u32],
     n: usize,
     tn: u32,
@@ -182,6 +191,25 @@ pub fn put_line(
     );
 }
 
+// Line n gets the six values, and no owners; nothing is written past the last line.
+pub fn put_line(
+    cell: &mut [u32; WORDS],
+    n: usize,
+    tn: u32,
+    mask: u64,
+    hsn: u32,
+    maio: u32,
+    combination: u32,
+    tsc: u32,
+)
+    ensures { λ _. ⌜ cellOf (now (cell .exit)) ≡ withLine (cellOf (now (cell .entry))) n (lineWith (record { tn = tn; mask = mask; hsn = hsn; maio = maio; combination = combination; tsc = tsc }) free) ⌝ }
+{
+    if n > 63 {
+        return;
+    }
+    write_line(cell, n, tn, mask, hsn, maio, combination, tsc);
+}
+
 // The first 64 words become the list, with 0 past its end.
 fn put_allocation(cell: &mut [u32], ca: &[u16])
     requires { ⌜ length (now cell) ≡ 1029 ⌝ }
@@ -206,8 +234,7 @@ fn close_lines(cell: &mut [u32])
     }
 }
 
-// The words become a cell with this CA, C0, BCC, AG and P, and all lines closed.
-pub fn put_start(cell: &mut [u32], ca: &[u16], c0: u32, bcc: u32, ag: u32, p: u32)
+fn write_start(cell: &mut [u32], ca: &[u16], c0: u32, bcc: u32, ag: u32, p: u32)
     requires { ⌜ (length (now cell) ≡ 1029) × (length (now ca) ≤ 64) ⌝ }
     ensures { λ _. ⌜ cellOf (now (cell .exit)) ≡ empty (now (ca .entry)) c0 bcc ag p ⌝ }
 {
@@ -218,4 +245,14 @@ pub fn put_start(cell: &mut [u32], ca: &[u16], c0: u32, bcc: u32, ag: u32, p: u3
     cell[66] = bcc;
     cell[67] = ag;
     cell[68] = p;
+}
+
+// The words become a cell with this CA, C0, BCC, AG and P, and all lines closed; nothing is written where the list has more than 64 entries.
+pub fn put_start(cell: &mut [u32; WORDS], ca: &[u16], c0: u32, bcc: u32, ag: u32, p: u32)
+    ensures { λ _. ⌜ cellOf (now (cell .exit)) ≡ startedFrom (cellOf (now (cell .entry))) (now (ca .entry)) c0 bcc ag p ⌝ }
+{
+    if ca.len() > 64 {
+        return;
+    }
+    write_start(cell, ca, c0, bcc, ag, p);
 }

@@ -86,7 +86,7 @@ returns-4 c =
     (refused-by _ 3 (causes s) (in-range (else1 past2), (is-open past2, (not-needed past3, sym (c .before .some-held .ensures) ∙ c .if4 .taken))))
 
 put-line-requires : tie.Need-put-line-requires
-put-line-requires c κs = (c .put-line-arg .given .0 .1, search needs)
+put-line-requires c κs = search needs
 
 returns-5 : tie.Need-returns-5
 unfolding closeOf closedLine

@@ -19,7 +19,7 @@ use Rattle.hopping.proofs.Bits.{count-ones}
 use Rattle.rules.specs.State.{Cell, Values, isOpen, lineAt}
 use Rattle.storage.specs.Words.{cellOf}
 use Rattle.rules.specs.Calls.{Step, step, changed, openRange, noAllocation, noMaio, misplaced, inTheWay, openCauses, openOf}
-use Rattle.rules.proofs.Lines.{in-table, closed-line, open-line}
+use Rattle.rules.proofs.Lines.{closed-line, open-line}
 use Rattle.cell.proofs.open.Statement.{statement}
 use Rattle.cell.proofs.open.Tie as tie
 
@@ -132,7 +132,7 @@ returns-3 c =
     ap (step (cell s)) (refused-by _ 2 (causes s) (in-range (else1 past2), (allocated past2, le-not-ltb _ _ (rw (n-is s) at (c .if3 .taken)))))
 
 combination-at-requires : tie.Need-combination-at-requires
-combination-at-requires c κs = in-table _ _ (in-range (else1 (else2 (c .before))))
+combination-at-requires c κs = search needs
 
 returns-4 : tie.Need-returns-4
 unfolding openOf
@@ -172,8 +172,7 @@ returns-6 c =
     (refused-by _ 5 (causes s) (in-range (else1 past2), (allocated past2, (has-maio past3, (is-closed past4, (in-place past5, way (c .before) ∙ lt-ltb _ _ (c .if6 .taken)))))))
 
 put-line-requires : tie.Need-put-line-requires
-put-line-requires c κs =
-    (c .put-line-arg .given .0 .1, in-table _ _ (in-range (else1 (else2 (else3 (else4 (else5 (c .before))))))))
+put-line-requires c κs = search needs
 
 returns-7 : tie.Need-returns-7
 unfolding openOf

@@ -4,7 +4,6 @@ use mathlib.Core.Path.{_≡_, sym, ap, _∙_}
 use mathlib.Core.Bool.{false, not, _||_}
 use mathlib.Core.List.{List}
 use lib.Dec.{ltb}
-use native.Mathlib.Omega.{arith}
 use borrow.Author.Needs.{needs}
 use borrow.Author.Tests.{eq-eqb, ne-eqb}
 use Rattle.answers.specs.Outcome.{Cause}
@@ -16,7 +15,7 @@ use Rattle.rules.specs.State.{Cell, LineState, isOpen, lineAt}
 use Rattle.storage.specs.Words.{cellOf}
 use Rattle.rules.specs.Calls.{step, changed, badOwner, subchannels}
 use Rattle.cell.specs.Helpers.{passCauses, passOf}
-use Rattle.rules.proofs.Lines.{in-table, closed-line, open-line, has-room}
+use Rattle.rules.proofs.Lines.{closed-line, open-line}
 use Rattle.cell.proofs.pass.Statement.{statement}
 use Rattle.cell.proofs.pass.Tie as tie
 
@@ -62,7 +61,7 @@ returns c =
     ap (step (cell s)) (refused-by _ 0 (causes s) (rw (c .before .bad-owner .ensures) at (c .if1 .taken)))
 
 combination-at-requires : tie.Need-combination-at-requires
-combination-at-requires c κs = in-table _ _ (c .before .if1 .left)
+combination-at-requires c κs = search needs
 
 returns-2 : tie.Need-returns-2
 unfolding passOf
@@ -83,7 +82,7 @@ returns-3 c =
     ap (step (cell s)) (refused-by _ 2 (causes s) (in-range (else1 past2), (is-open past2, le-not-ltb _ _ none)))
 
 owner-at-requires : tie.Need-owner-at-requires
-owner-at-requires c κs = in-table _ _ (else1 (else2 (c .before)) .if1 .left)
+owner-at-requires c κs = search needs
 
 returns-4 : tie.Need-returns-4
 unfolding passOf
@@ -95,10 +94,7 @@ returns-4 c =
     ap (step (cell s)) (refused-by _ 3 (causes s) (in-range (else1 past2), (is-open past2, (lt-not-ltb _ _ (exists past3), other))))
 
 put-owner-requires : tie.Need-put-owner-requires
-put-owner-requires c κs =
-    let past3 = else3 (c .before) in
-    let past1 = else1 (else2 past3) in
-    (c .put-owner-arg .given .0 .1, in-table _ _ (past1 .if1 .left), omega (arith, exists past3, has-room (named (start1 past1) .combination)))
+put-owner-requires c κs = search needs
 
 returns-5 : tie.Need-returns-5
 unfolding passOf

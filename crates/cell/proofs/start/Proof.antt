@@ -14,6 +14,8 @@ use Rattle.answers.proofs.Search.{any-least}
 use Rattle.hopping.specs.Allocation.{isAllocation}
 use Rattle.hopping.proofs.Apart.{at-most-64}
 use Rattle.rules.specs.Calls.{step, changed, lists, startCauses, refusedCell, startOf}
+use Rattle.storage.specs.Words.{cellOf}
+use Rattle.storage.proofs.Storage.{start-put}
 use Rattle.cell.proofs.start.Statement.{statement}
 use Rattle.cell.proofs.start.Tie as tie
 
@@ -60,13 +62,15 @@ returns-2 c =
     ∙ ap (step refusedCell) (refused-by _ 1 (causes s) (ap not (valid (c .before .before .before .before)), rw (found (c .before .before .before)) at (c .before .before .if2 .taken)))
 
 put-start-requires : tie.Need-put-start-requires
-put-start-requires c κs = (c .put-start-arg .given .0 .1, at-most-64 _ (valid (c .before .before .before)))
+put-start-requires c κs = search needs
 
 returns-3 : tie.Need-returns-3
 unfolding startOf
 returns-3 c =
     let s = c .before .before .before .before .before .before .before in
-    ap (changed Accepted) (c .put-start .ensures)
+    let x = s .args in
+    let put = start-put (cellOf (x .cell .now)) (x .ca .now) (x .c0) (x .bcc) (x .ag) (x .p) (at-most-64 _ (valid (c .before .before .before .before))) in
+    ap (changed Accepted) (c .put-start .ensures ∙ sym put)
     ∙ ap (step refusedCell) (accepted-by _ (causes s) (ap not (valid (c .before .before .before .before)), (rw (found (c .before .before .before)) at (c .before .before .if2 .left), tt)))
 
 pub start-spec : {M : Type 1} → statement M

@@ -5,7 +5,8 @@ use Rattle.answers.specs.Outcome.{accepted}
 use Rattle.answers.proofs.Decide.{refused-by, accepted-by}
 use Rattle.storage.specs.Words.{cellOf}
 use Rattle.rules.specs.OnAir.{lineCauses, lineOf}
-use Rattle.rules.proofs.Lines.{in-table, closed-line, open-line}
+use Rattle.rules.proofs.Lines.{closed-line, open-line}
+use borrow.Author.Needs.{needs}
 use Rattle.onair.proofs.line.Statement.{statement}
 use Rattle.onair.proofs.line.Tie as tie
 
@@ -14,7 +15,7 @@ unfolding lineOf
 returns c = let x = c .before .args in refused-by _ 0 (lineCauses (cellOf (x .cell .now)) (x .line) (x .number) (x .direction)) (c .if1 .taken)
 
 combination-at-requires : tie.Need-combination-at-requires
-combination-at-requires c κs = in-table _ _ (c .if1 .left)
+combination-at-requires c κs = search needs
 
 returns-2 : tie.Need-returns-2
 unfolding lineOf
@@ -23,7 +24,7 @@ returns-2 c =
     refused-by _ 1 (lineCauses (cellOf (x .cell .now)) (x .line) (x .number) (x .direction)) (c .before .before .if1 .left, ap not (closed-line (sym (c .before .combination-at .ensures) ∙ c .if2 .taken)))
 
 on-air-requires : tie.Need-on-air-requires
-on-air-requires c κs = in-table _ _ (c .before .before .if1 .left)
+on-air-requires c κs = search needs
 
 returns-3 : tie.Need-returns-3
 unfolding lineOf

@@ -1,4 +1,4 @@
--- `words::ag` meets its contract: it is that word. Assumes nothing.
+-- `ag` meets its contract: it is that word. Assumes nothing.
 use borrow.Author.Needs.{needs}
 use Rattle.storage.specs.Words.{cellOf}
 use Rattle.storage.proofs.ag.Statement.{statement}

@@ -1,4 +1,4 @@
--- `words::bcc` meets its contract: it is that word. Assumes nothing.
+-- `bcc` meets its contract: it is that word. Assumes nothing.
 use borrow.Author.Needs.{needs}
 use Rattle.storage.specs.Words.{cellOf}
 use Rattle.storage.proofs.bcc.Statement.{statement}

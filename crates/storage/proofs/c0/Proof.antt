@@ -1,4 +1,4 @@
--- `words::c0` meets its contract: it is that word. Assumes nothing.
+-- `c0` meets its contract: it is that word. Assumes nothing.
 use borrow.Author.Needs.{needs}
 use Rattle.storage.specs.Words.{cellOf}
 use Rattle.storage.proofs.c0.Statement.{statement}

@@ -1,4 +1,4 @@
--- `words::close_lines` meets its contract: the first k words of the lines are 0. Assumes nothing.
+-- `close_lines` meets its contract: the first k words of the lines are 0. Assumes nothing.
 use Prim.Native.Nat.{ℕ, _-_, _≤_}
 use mathlib.Core.Path.{_≡_, refl, sym, _∙_}
 use lib.ListN.{length, length-set}

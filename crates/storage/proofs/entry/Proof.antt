@@ -1,4 +1,4 @@
--- `words::entry` meets its contract: the first 64 words are the entries. Assumes nothing.
+-- `entry` meets its contract: the first 64 words are the entries. Assumes nothing.
 use mathlib.Core.Path.{sym}
 use native.Mathlib.Omega.{arith}
 use borrow.Author.Needs.{needs}

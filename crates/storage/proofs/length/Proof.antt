@@ -1,4 +1,4 @@
--- `words::length` meets its contract: it is that word. Assumes nothing.
+-- `length` meets its contract: it is that word. Assumes nothing.
 use borrow.Author.Needs.{needs}
 use Rattle.storage.specs.Words.{cellOf}
 use Rattle.storage.proofs.length.Statement.{statement}

@@ -1,9 +1,9 @@
--- `words::maio_at` meets its contract: it is a word of line n. Assumes nothing.
-use mathlib.Core.Path.{sym, ap, _∙_}
+-- `maio_at` meets its contract: it is a word of line n. Assumes nothing.
+use mathlib.Core.Path.{refl, sym, _∙_}
 use borrow.Author.Needs.{needs}
 use Rattle.rules.specs.State.{LineState}
 use Rattle.storage.specs.Words.{lineIn}
-use Rattle.storage.proofs.Storage.{line-at}
+use Rattle.storage.proofs.Storage.{line-number}
 use Rattle.storage.proofs.maio_at.Statement.{statement}
 use Rattle.storage.proofs.maio_at.Tie as tie
 
@@ -14,7 +14,7 @@ returns : tie.Need-returns
 unfolding lineIn
 returns c =
     let x = c .before .args in
-    c .value .ensures ∙ sym (ap (λ (l : LineState). l .maio) (line-at (x .cell .now) (x .n) (search needs)))
+    c .value .ensures ∙ sym (line-number (x .cell .now) (x .n) (λ (l : LineState). l .maio) _ refl refl)
 
 pub maio-at-spec : {M : Type 1} → statement M
 maio-at-spec = tie.close (tie.spec value-requires returns)

@@ -1,10 +1,8 @@
--- `words::mask_at` meets its contract: two words of line n are the halves. Assumes nothing.
+-- `mask_at` meets its contract: two words of line n are the halves. Assumes nothing.
 use Prim.Native.Nat.{ℕ, _+_, _*_, _^_}
-use mathlib.Core.Path.{_≡_, sym, ap, _∙_}
+use mathlib.Core.Path.{_≡_, sym, _∙_}
 use borrow.Author.Needs.{needs}
-use Rattle.rules.specs.State.{LineState}
-use Rattle.storage.specs.Words.{lineIn}
-use Rattle.storage.proofs.Storage.{line-at}
+use Rattle.storage.proofs.Storage.{line-mask}
 use Rattle.storage.proofs.mask_at.Statement.{statement}
 use Rattle.storage.proofs.mask_at.Tie as tie
 
@@ -21,11 +19,9 @@ joined-requires : tie.Need-joined-requires
 joined-requires c κs = search needs
 
 returns : tie.Need-returns
-unfolding lineIn
 returns c =
     let x = c .before .before .before .args in
-    halves (c .joined .ensures) (c .before .before .value .ensures) (c .before .value2 .ensures)
-    ∙ sym (ap (λ (l : LineState). l .mask) (line-at (x .cell .now) (x .n) (search needs)))
+    halves (c .joined .ensures) (c .before .before .value .ensures) (c .before .value2 .ensures) ∙ sym (line-mask (x .cell .now) (x .n))
 
 pub mask-at-spec : {M : Type 1} → statement M
 mask-at-spec = tie.close (tie.spec value-requires value-requires-2 joined-requires returns)

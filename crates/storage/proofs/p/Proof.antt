@@ -1,4 +1,4 @@
--- `words::p` meets its contract: it is that word. Assumes nothing.
+-- `p` meets its contract: it is that word. Assumes nothing.
 use borrow.Author.Needs.{needs}
 use Rattle.storage.specs.Words.{cellOf}
 use Rattle.storage.proofs.p.Statement.{statement}

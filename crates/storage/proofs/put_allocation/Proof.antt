@@ -1,4 +1,4 @@
--- `words::put_allocation` meets its contract: the first k words are the entries. Assumes nothing.
+-- `put_allocation` meets its contract: the first k words are the entries. Assumes nothing.
 use Prim.Native.Nat.{_-_, _≤_}
 use mathlib.Core.Path.{_≡_, sym, _∙_}
 use native.Mathlib.Nat.{zero-add}

@@ -1,25 +1,17 @@
--- `words::put_line` meets its contract: the line's words are its mask in two halves, its numbers and eight zeros. Assumes nothing.
-use Rattle.storage.proofs.Storage.{filled-line}
+-- `put_line` meets its contract: past the last line nothing is written. Assumes nothing.
 use borrow.Author.Needs.{needs}
+use Rattle.storage.proofs.Storage.{no-such-line}
 use Rattle.storage.proofs.put_line.Statement.{statement}
 use Rattle.storage.proofs.put_line.Tie as tie
 
-low-half-requires : tie.Need-low-half-requires
-low-half-requires c κs = search needs
-
-high-half-requires : tie.Need-high-half-requires
-high-half-requires c κs = search needs
-
-put-words-requires : tie.Need-put-words-requires
-put-words-requires c κs = search needs
-
-same-length : tie.Need-same-length
-same-length c = search needs
-
 returns : tie.Need-returns
-returns c =
-    let x = c .before .before .before .before .before .before .before .args in
-    filled-line (x .cell .now) _ (x .n) (x .tn) (x .mask) (x .hsn) (x .maio) (x .combination) (x .tsc) _ _ (c .before .before .before .before .before .before .before .pre .1) (c .before .before .before .before .before .low-half .ensures) (c .before .before .before .before .high-half .ensures) (c .before .before .put-words .ensures)
+returns c = let x = c .before .args in no-such-line (x .cell .now) (x .n) _ (c .if1 .taken)
+
+write-line-requires : tie.Need-write-line-requires
+write-line-requires c κs = search needs
+
+returns-2 : tie.Need-returns-2
+returns-2 c = search needs
 
 pub put-line-spec : {M : Type 1} → statement M
-put-line-spec = tie.close (tie.spec low-half-requires high-half-requires put-words-requires same-length returns)
+put-line-spec = tie.close (tie.spec returns write-line-requires returns-2)

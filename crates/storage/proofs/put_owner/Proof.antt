@@ -1,32 +1,20 @@
--- `words::put_owner` meets its contract: one word of line n changes. Assumes nothing.
+-- `put_owner` meets its contract: past the last line and the last subchannel nothing is written. Assumes nothing.
 use borrow.Author.Needs.{needs}
-use Rattle.storage.proofs.Storage.{other-owner}
+use Rattle.storage.proofs.Storage.{no-such-line, no-such-owner}
 use Rattle.storage.proofs.put_owner.Statement.{statement}
 use Rattle.storage.proofs.put_owner.Tie as tie
 
-mul-cell : tie.Need-mul-cell
-mul-cell c = search needs
-
-add-cell : tie.Need-add-cell
-add-cell c = search needs
-
-add-cell-2 : tie.Need-add-cell-2
-add-cell-2 c = search needs
-
-add-cell-3 : tie.Need-add-cell-3
-add-cell-3 c = search needs
-
-mul-cell-2 : tie.Need-mul-cell-2
-mul-cell-2 c = search needs
-
-slice-write-cell : tie.Need-slice-write-cell
-slice-write-cell c = search needs
-
-same-length : tie.Need-same-length
-same-length c = search needs
-
 returns : tie.Need-returns
-returns c = let x = c .args in other-owner (x .cell .now) (x .n) (x .s) (x .owner) (c .pre .1) (c .pre .2) (c .pre .0)
+returns c = let x = c .before .args in no-such-line (x .cell .now) (x .n) _ (c .if1 .taken)
+
+returns-2 : tie.Need-returns-2
+returns-2 c = let x = c .before .before .args in no-such-owner (x .cell .now) (x .n) (x .s) (x .owner) (c .if2 .taken)
+
+write-owner-requires : tie.Need-write-owner-requires
+write-owner-requires c κs = search needs
+
+returns-3 : tie.Need-returns-3
+returns-3 c = search needs
 
 pub put-owner-spec : {M : Type 1} → statement M
-put-owner-spec = tie.close (tie.spec mul-cell add-cell add-cell-2 add-cell-3 mul-cell-2 slice-write-cell same-length returns)
+put-owner-spec = tie.close (tie.spec returns returns-2 write-owner-requires returns-3)

@@ -1,4 +1,4 @@
--- `words::put_words` meets its contract: the first k words are filled. Assumes nothing.
+-- `put_words` meets its contract: the first k words are filled. Assumes nothing.
 use Prim.Native.Nat.{_-_, _≤_}
 use mathlib.Core.Path.{_≡_, refl, sym, _∙_}
 use lib.ListN.{length, length-set}
