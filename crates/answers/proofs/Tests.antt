@@ -38,10 +38,6 @@ or-rest false b p h = h
 pub or-none : {a b : Bool} → a ≡ false → b ≡ false → (a || b) ≡ false
 or-none {a} {b} p q = cc
 
-pub or-none-left : (a b : Bool) → (a || b) ≡ false → a ≡ false
-or-none-left true b h = h
-or-none-left false b h = refl
-
 pub or-false : (a : Bool) → (a || false) ≡ a
 or-false true = refl
 or-false false = refl

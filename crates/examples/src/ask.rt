@@ -10,7 +10,7 @@ ghost use Rattle.rules.specs.Calls.{startOf};
 ghost use Rattle.rules.specs.Paging.{pageOf};
 ghost use Rattle.c_answers.specs.Numbers.{hopNumbers};
 ghost use Rattle.tdma.specs.Cells.{Left, pageNumbers};
-ghost use Rattle.examples.specs.DrillSheet.{ca, imsi};
+ghost use Rattle.rules.specs.DrillSheet.{ca, imsi};
 
 pub(crate) fn hop(mask: u64, hsn: u32, maio: u32, frame: u32) -> TdmaHop
     ensures { λ r. ⌜ r ≡ hopNumbers (hopOf ca mask hsn maio frame) ⌝ }

@@ -29,7 +29,7 @@ use tdma::tdma_map;
 use tdma::tdma_split;
 ghost use mathlib.Core.Path.{_≡_};
 ghost use Rattle.storage.specs.Words.{cellOf};
-ghost use Rattle.examples.specs.DrillSheet as sheet;
+ghost use Rattle.rules.specs.DrillSheet as sheet;
 
 fn clock_rows() {
     expect_split(tdma_split(2715647), 2047, 25, 50);

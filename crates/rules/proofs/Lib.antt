@@ -10,6 +10,7 @@ pub mod Shown
 pub mod Begun
 pub mod CollisionFree
 pub mod ExampleRun
+pub mod DrillSheet
 pub mod Causes
 pub mod Known
 pub mod WhoAndLine

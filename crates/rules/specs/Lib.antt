@@ -1,6 +1,7 @@
 pub mod Calls
 pub mod Carried
 pub mod CollisionFree
+pub mod DrillSheet
 pub mod ExampleRun
 pub mod History
 pub mod OnAir

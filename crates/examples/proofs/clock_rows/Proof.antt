@@ -3,7 +3,7 @@ use mathlib.Core.Path.{ap, _∙_}
 use Rattle.answers.specs.Outcome.{anyOf}
 use Rattle.clock.specs.Clock.{primeOf}
 use Rattle.c_answers.specs.Numbers.{splitNumbers, joinNumbers}
-use Rattle.examples.proofs.Drill.{drill-sheet}
+use Rattle.rules.proofs.DrillSheet.{drill-sheet}
 use Rattle.examples.proofs.clock_rows.Statement.{statement}
 use Rattle.examples.proofs.clock_rows.Tie as tie
 

@@ -1,8 +1,8 @@
 -- `combined` meets its contract: each call is accepted, and the last leaves the definition's cell. Assumes nothing.
 use lib.ListN.{drop}
 use Rattle.storage.specs.Words.{cellOf}
-use Rattle.examples.specs.DrillSheet.{empty, combinedCalls, combined}
-use Rattle.examples.proofs.Drill.{drill-sheet}
+use Rattle.rules.specs.DrillSheet.{empty, combinedCalls, combined}
+use Rattle.rules.proofs.DrillSheet.{drill-sheet}
 use Rattle.examples.proofs.Checks.{told, nones, Remaining, started, called, next-accepted, ended}
 use Rattle.examples.proofs.combined.Statement.{statement}
 use Rattle.examples.proofs.combined.Tie as tie

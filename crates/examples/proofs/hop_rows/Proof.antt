@@ -1,7 +1,7 @@
 -- `hop_rows` meets its contract: each check follows from what the question promises and the sheet's row. Assumes nothing.
 use mathlib.Core.Path.{ap, _∙_}
 use Rattle.c_answers.specs.Numbers.{hopNumbers}
-use Rattle.examples.proofs.Drill.{drill-sheet}
+use Rattle.rules.proofs.DrillSheet.{drill-sheet}
 use Rattle.examples.proofs.hop_rows.Statement.{statement}
 use Rattle.examples.proofs.hop_rows.Tie as tie
 

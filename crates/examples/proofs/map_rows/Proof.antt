@@ -3,7 +3,7 @@ use mathlib.Core.Path.{ap, _∙_}
 use lib.Dec.{lit≤}
 use Rattle.frame_map.specs.Numbers.{standingNumbers, numbersOf}
 use Rattle.c_answers.specs.Numbers.{mapNumbers}
-use Rattle.examples.proofs.Drill.{drill-sheet}
+use Rattle.rules.proofs.DrillSheet.{drill-sheet}
 use Rattle.examples.proofs.map_rows.Statement.{statement}
 use Rattle.examples.proofs.map_rows.Tie as tie
 

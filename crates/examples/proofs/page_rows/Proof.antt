@@ -2,8 +2,8 @@
 use Rattle.frame_map.specs.Numbers.{standingNumbers}
 use Rattle.tdma.specs.Cells.{pageNumbers}
 use Rattle.rules.specs.Paging.{pageOf}
-use Rattle.examples.specs.DrillSheet.{imsi}
-use Rattle.examples.proofs.Drill.{drill-sheet}
+use Rattle.rules.specs.DrillSheet.{imsi}
+use Rattle.rules.proofs.DrillSheet.{drill-sheet}
 use Rattle.examples.proofs.Checks.{on-cell, on-line}
 use Rattle.examples.proofs.page_rows.Statement.{statement}
 use Rattle.examples.proofs.page_rows.Tie as tie

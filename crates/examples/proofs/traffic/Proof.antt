@@ -1,8 +1,8 @@
 -- `traffic` meets its contract: each call is accepted, and the last leaves the definition's cell. Assumes nothing.
 use lib.ListN.{drop}
 use Rattle.storage.specs.Words.{cellOf}
-use Rattle.examples.specs.DrillSheet.{empty, calls, traffic}
-use Rattle.examples.proofs.Drill.{drill-sheet}
+use Rattle.rules.specs.DrillSheet.{empty, calls, traffic}
+use Rattle.rules.proofs.DrillSheet.{drill-sheet}
 use Rattle.examples.proofs.Checks.{told, nones, Remaining, started, called, next-accepted, ended}
 use Rattle.examples.proofs.traffic.Statement.{statement}
 use Rattle.examples.proofs.traffic.Tie as tie

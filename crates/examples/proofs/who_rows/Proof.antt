@@ -3,8 +3,8 @@ use mathlib.Core.Path.{_≡_, ap, _∙_}
 use Rattle.frame_map.specs.Numbers.{standingNumbers}
 use Rattle.tdma.specs.Cells.{matchNumbers, nobody, whoNumbers}
 use Rattle.rules.specs.Who.{whoOf}
-use Rattle.examples.specs.DrillSheet.{cyclicSlot}
-use Rattle.examples.proofs.Drill.{drill-sheet}
+use Rattle.rules.specs.DrillSheet.{cyclicSlot}
+use Rattle.rules.proofs.DrillSheet.{drill-sheet}
 use Rattle.examples.proofs.Checks.{on-cell, who-numbers}
 use Rattle.examples.proofs.who_rows.Statement.{statement}
 use Rattle.examples.proofs.who_rows.Tie as tie

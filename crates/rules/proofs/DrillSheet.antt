@@ -16,14 +16,14 @@ use Rattle.frame_map.specs.Combinations.{fullRate, halfRate, uncombined, combin
 use Rattle.frame_map.specs.Map.{mapOf}
 use Rattle.paging.specs.Paging.{pagingOf}
 use Rattle.paging.proofs.Drill.{one-line, drill}
 use Rattle.rules.specs.State.{tabulate, closedLine, empty}
 use Rattle.rules.specs.Calls.{startOf, openOf, seizeOf}
 use Rattle.rules.specs.OnAir.{ownerOf, slotOf, lineOf}
 use Rattle.rules.specs.Paging.{commonOf, pageOf}
 use Rattle.rules.specs.Who.{matchOf, whoOf}
 use Rattle.rules.specs.CollisionFree.{run}
 use Rattle.rules.specs.ExampleRun.{refusals}
-use Rattle.examples.specs.DrillSheet.{imsi, traffic, DrillSheet}
+use Rattle.rules.specs.DrillSheet.{imsi, traffic, DrillSheet}
 
 -- a question in range is answered by what stands there
 module _ (n tn fn d : ℕ) (t : tn ≤ 7) (f : fn ≤ 2715647) (e : d ≤ 1) where
