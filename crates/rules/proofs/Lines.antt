@@ -7,7 +7,7 @@ use native.Mathlib.Omega.{arith}
 use lib.Dec.{ltb, eqb, lit≤}
 use borrow.Author.Tests.{ltb-false, eq-eqb, ne-eqb}
 use Rattle.answers.proofs.Tests.{or-none-left}
-use Rattle.frame_map.specs.Channels.{Standing}
+use Rattle.maps.specs.Channels.{Standing}
 use Rattle.rules.specs.Calls.{subchannels}
 use Rattle.rules.specs.OnAir.{Slot}
 
