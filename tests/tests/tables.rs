@@ -1,10 +1,10 @@
-//! The words of frame_map's two tables, made from the second implementation. Where a combination
+//! The words of the frame map's two tables, made from the second implementation. Where a combination
 //! changes, the arms that the failing test prints are the new table.
 
 use tdma_tests::frame_map::map;
 use tdma_tests::library::MapAnswer;
 
-const SOURCES: &str = concat!(env!("CARGO_MANIFEST_DIR"), "/../crates/frame_map/src/");
+const SOURCES: &str = concat!(env!("CARGO_MANIFEST_DIR"), "/../crates/tables/src/");
 
 /// Compares the arms `key => word` of the source file with these words, keys from 0 on.
 fn compare(file: &str, words: Vec<String>) {

@@ -6,8 +6,8 @@ use mathlib.Core.Option.{Option, none, some}
 use Rattle.answers.specs.Outcome.{Refused, Outcome, refused, accepted}
 use Rattle.clock.specs.declared.Frame.{Frame}
 use Rattle.clock.specs.Clock.{primeOf}
-use Rattle.frame_map.specs.Channels.{Standing}
-use Rattle.frame_map.specs.Numbers.{Numbers, numbersOf}
+use Rattle.maps.specs.Channels.{Standing}
+use Rattle.maps.specs.Numbers.{Numbers, numbersOf}
 use Rattle.c_answers.specs.declared.TdmaAnswer.{TdmaAnswer}
 use Rattle.c_answers.specs.declared.TdmaSplit.{TdmaSplit}
 use Rattle.c_answers.specs.declared.TdmaJoin.{TdmaJoin}

@@ -4,7 +4,7 @@ use c_answers::TdmaHop;
 use c_answers::TdmaPage;
 use storage::WORDS;
 ghost use mathlib.Core.Path.{_≡_};
-ghost use Rattle.hopping.specs.Hopping.{hopOf};
+ghost use Rattle.hops.specs.Hopping.{hopOf};
 ghost use Rattle.storage.specs.Words.{cellOf};
 ghost use Rattle.rules.specs.Calls.{startOf};
 ghost use Rattle.rules.specs.Paging.{pageOf};

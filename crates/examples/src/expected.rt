@@ -9,7 +9,7 @@ use c_answers::TdmaSplit;
 use c_answers::TdmaWho;
 ghost use mathlib.Core.Path.{_≡_};
 ghost use Rattle.answers.specs.Outcome.{accepted};
-ghost use Rattle.frame_map.specs.Numbers.{noNumbers};
+ghost use Rattle.maps.specs.Numbers.{noNumbers};
 ghost use Rattle.c_answers.specs.Numbers.{joinNumbers, hopNumbers, mapFields};
 ghost use Rattle.tdma.specs.Cells.{lineFields, pageNumbers};
 

@@ -1,57 +1,20 @@
 // Which channel, subchannel, block and place a timeslot carries in each frame: document 01, "From frame to logical channel (6.4.1, clause 7)".
-// traffic.rt has combinations 1 and 2, control.rt 4 to 7, both as eight bytes to a frame; unpack.rt makes the enum of the bytes.
-mod control;
-mod traffic;
-mod unpack;
 
 use answers::Refusal;
-use control::control;
-use traffic::traffic;
-use unpack::unpack;
+use maps::Content;
+use tables::control::control;
+use tables::traffic::traffic;
+use tables::unpack::unpack;
 ghost use mathlib.Core.Path.{_≡_};
 ghost use mathlib.Core.Bool.{false};
 ghost use Rattle.answers.specs.Outcome.{anyOf};
-ghost use Rattle.frame_map.specs.Combinations.{isCombination, rowsOf};
-ghost use Rattle.frame_map.specs.Map.{outOfRange, mapOf, mapped};
-ghost use Rattle.frame_map.specs.Numbers.{standingNumbers, numbersOf, bytes};
-ghost use Rattle.frame_map.specs.Rows.{standing};
+ghost use Rattle.maps.specs.Combinations.{isCombination, rowsOf};
+ghost use Rattle.maps.specs.Map.{outOfRange, mapOf};
+ghost use Rattle.maps.specs.Numbers.{standingNumbers, numbersOf, bytes};
+ghost use Rattle.maps.specs.Rows.{standing};
+ghost use Rattle.frame_map.specs.Answers.{mapped};
 
-// The logical channels.
-pub enum Kind {
-    Tch,
-    Sacch,
-    Sdcch,
-    Fcch,
-    Sch,
-    Bcch,
-    Ccch,
-    Rach,
-}
-
-// A block, and the place in it.
-pub struct Place {
-    pub block: u32,
-    pub place: u32,
-}
-
-// A burst belongs to one block, a TCH burst to two.
-pub enum Blocks {
-    One(Place),
-    Two(Place, Place),
-}
-
-pub struct Burst {
-    pub kind: Kind,
-    pub subchannel: u32,
-    pub blocks: Blocks,
-}
-
-// What a frame carries.
-pub enum Content {
-    Idle,
-    Channel(Burst),
-}
-
+// The answer of `map`.
 pub enum Mapped {
     Frame(Content),
     Refused(Refusal),

@@ -1,5 +1,1 @@
-pub mod Apart
-pub mod Bits
-pub mod Blocks
-pub mod Causes
-pub mod Mai
+mod Computed

@@ -1,4 +1,1 @@
-pub mod Masks
-pub mod Allocation
-pub mod Hopping
-pub mod Clash
+pub mod Answers

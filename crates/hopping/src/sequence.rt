@@ -2,7 +2,7 @@
 use clock::Frame;
 ghost use mathlib.Core.Path.{_≡_};
 ghost use Prim.Native.Nat.{_<_, _≤_, _+_, _%_};
-ghost use Rattle.hopping.specs.Hopping.{S, maiOf};
+ghost use Rattle.hops.specs.Hopping.{S, maiOf};
 ghost use Rattle.clock.specs.Clock.{partsOf, hyperframe};
 
 const RNTABLE: [u8; 114] = [

@@ -3,7 +3,7 @@ use Prim.Native.Nat.{ℕ}
 use mathlib.Core.Option.{Option, none, some}
 use Rattle.answers.specs.Outcome.{Outcome, refused, accepted}
 use Rattle.answers.specs.Refusals.{refusalOf}
-use Rattle.frame_map.specs.Map.{carried}
+use Rattle.maps.specs.Map.{carried}
 use Rattle.onair.specs.declared.OnAir.{OnAir}
 use Rattle.onair.specs.declared.Aired.{Aired}
 use Rattle.onair.specs.declared.Aired.the-variants as Aired

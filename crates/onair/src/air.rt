@@ -1,9 +1,9 @@
 // What a line sends in a frame.
 use crate::OnAir;
-use frame_map::Content;
-use frame_map::Kind;
 use frame_map::Mapped;
 use hopping::Positioned;
+use maps::Content;
+use maps::Kind;
 use storage::WORDS;
 use storage::combination_at;
 use storage::entry;
@@ -14,8 +14,8 @@ use storage::mask_at;
 use storage::owner_at;
 use storage::tn_at;
 ghost use mathlib.Core.Path.{_≡_};
-ghost use Rattle.frame_map.specs.Channels.{isCommon};
-ghost use Rattle.frame_map.specs.Map.{mapOf, carried};
+ghost use Rattle.maps.specs.Channels.{isCommon};
+ghost use Rattle.maps.specs.Map.{mapOf, carried};
 ghost use Rattle.rules.specs.OnAir.{arfcnIn, inFrame, ownerOf, slotOf};
 ghost use Rattle.onair.specs.Told.{slotIn};
 ghost use Rattle.rules.specs.State.{lineAt, ownerAt};

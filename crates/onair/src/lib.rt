@@ -5,7 +5,7 @@ mod seek;
 use air::on_air;
 use answers::Refusal;
 use clock::Frame;
-use frame_map::Content;
+use maps::Content;
 use seek::first_on;
 use storage::WORDS;
 use storage::combination_at;

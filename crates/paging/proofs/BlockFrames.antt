@@ -16,14 +16,14 @@ use Rattle.answers.proofs.Search.{all-at}
 use Rattle.answers.proofs.Tables.{every, at-most}
 use Rattle.answers.proofs.Tests.{and-left, and-right}
 use Rattle.clock.specs.Clock.{hyperframe}
-use Rattle.frame_map.specs.declared.Kind.the-variants.{Ccch}
-use Rattle.frame_map.specs.Channels.{Standing, at}
-use Rattle.frame_map.specs.Combinations.{uncombined, combined, additional, combinations, among, isCombination, rowsAmong, rowsOf}
-use Rattle.frame_map.specs.Map.{outOfRange, mapOf}
-use Rattle.frame_map.specs.Rows.{numbered, each, from, standing}
-use Rattle.frame_map.proofs.Range.{accepted-map}
-use Rattle.frame_map.proofs.Repeat.{repeats, standing-mod}
-use Rattle.frame_map.proofs.Same.{sameAll, all-same}
+use Rattle.maps.specs.declared.Kind.the-variants.{Ccch}
+use Rattle.maps.specs.Channels.{Standing, at}
+use Rattle.maps.specs.Combinations.{uncombined, combined, additional, combinations, among, isCombination, rowsAmong, rowsOf}
+use Rattle.maps.specs.Map.{outOfRange, mapOf}
+use Rattle.maps.specs.Rows.{numbered, each, from, standing}
+use Rattle.maps.proofs.Range.{accepted-map}
+use Rattle.maps.proofs.Repeat.{repeats, standing-mod}
+use Rattle.maps.proofs.Same.{sameAll, all-same}
 use Rattle.paging.specs.Helpers.{starts}
 use Rattle.paging.specs.Paging.{isFirst, anyBurst, begins, commonIn}
 

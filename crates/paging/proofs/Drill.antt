@@ -7,8 +7,8 @@ use mathlib.Core.List.{[], _∷_}
 use lib.Dec.{lit<}
 use Rattle.answers.specs.Outcome.{accepted, anyOf, decide}
 use Rattle.answers.specs.Search.{allBelow}
-use Rattle.frame_map.specs.Combinations.{uncombined, combinations, rowsAmong}
-use Rattle.frame_map.specs.Rows.{numbered, standing}
+use Rattle.maps.specs.Combinations.{uncombined, combinations, rowsAmong}
+use Rattle.maps.specs.Rows.{numbered, standing}
 use Rattle.paging.specs.declared.PagingBlock.{PagingBlock}
 use Rattle.paging.specs.Paging.{Common, anyBurst, begins, isPaged, later, blockFor, pagingOf}
 use Rattle.paging.proofs.FirstBlock.{given-wait}

@@ -9,11 +9,11 @@ use lib.ListN.{getD}
 use Rattle.answers.specs.Outcome.{accepted}
 use Rattle.answers.proofs.Tests.{and-right}
 use Rattle.clock.specs.Clock.{hyperframe}
-use Rattle.frame_map.specs.declared.Kind.the-variants.{Ccch}
-use Rattle.frame_map.specs.Channels.{at}
-use Rattle.frame_map.specs.Combinations.{rowsOf}
-use Rattle.frame_map.specs.Map.{mapOf}
-use Rattle.frame_map.specs.Rows.{standing}
+use Rattle.maps.specs.declared.Kind.the-variants.{Ccch}
+use Rattle.maps.specs.Channels.{at}
+use Rattle.maps.specs.Combinations.{rowsOf}
+use Rattle.maps.specs.Map.{mapOf}
+use Rattle.maps.specs.Rows.{standing}
 use Rattle.paging.specs.Helpers.{starts}
 use Rattle.paging.specs.Paging.{Common, n, timeslot, isMultiframe, block, begins, commonIn, isPaged}
 use Rattle.paging.proofs.BlockFrames as blocks

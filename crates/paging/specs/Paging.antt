@@ -8,10 +8,10 @@ use Rattle.answers.specs.Outcome.{Outcome, refused, accepted, Cause, cause, dec
 use Rattle.answers.specs.Refusals.{refusalOf}
 use Rattle.answers.specs.Search.{allBelow, least}
 use Rattle.clock.specs.Clock.{hyperframe}
-use Rattle.frame_map.specs.declared.Kind.the-variants.{Ccch}
-use Rattle.frame_map.specs.Channels.{Standing, kindNumber}
-use Rattle.frame_map.specs.Rows.{standing}
-use Rattle.frame_map.specs.Combinations.{rowsOf}
+use Rattle.maps.specs.declared.Kind.the-variants.{Ccch}
+use Rattle.maps.specs.Channels.{Standing, kindNumber}
+use Rattle.maps.specs.Rows.{standing}
+use Rattle.maps.specs.Combinations.{rowsOf}
 use Rattle.paging.specs.declared.PagingBlock.{PagingBlock}
 use Rattle.paging.specs.declared.Paged.{Paged}
 use Rattle.paging.specs.declared.Paged.the-variants as Paged

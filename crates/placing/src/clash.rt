@@ -1,5 +1,5 @@
 // The line that stands in the way of a line to be opened.
-use hopping::masks::overlap;
+use masks::overlap;
 use storage::WORDS;
 use storage::combination_at;
 use storage::hsn_at;

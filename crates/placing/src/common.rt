@@ -1,5 +1,5 @@
 // Where a common channel may stand (refusal 8), and the common lines as paging counts them.
-use hopping::masks::contains;
+use masks::contains;
 use storage::WORDS;
 use storage::ag;
 use storage::bcc;

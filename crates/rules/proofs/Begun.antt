@@ -10,8 +10,8 @@ use borrow.Author.Tests.{ltb-false, not-false}
 use Rattle.answers.specs.Outcome.{Outcome}
 use Rattle.answers.specs.Search.{allBelow}
 use Rattle.answers.proofs.Decide.{decided}
-use Rattle.hopping.specs.Allocation.{isAllocation}
-use Rattle.hopping.proofs.Apart.{at-most-64}
+use Rattle.hops.specs.Allocation.{isAllocation}
+use Rattle.hops.proofs.Apart.{at-most-64}
 use Rattle.rules.specs.State.{Cell, allocation, empty}
 use Rattle.rules.specs.Calls.{step, startCauses, refusedCell, startOf}
 use Rattle.rules.specs.History.{openedWith, lastAccepted, cellFrom}

@@ -9,13 +9,13 @@ use mathlib.Core.Option.{some}
 use lib.Dec.{eqb}
 use borrow.Author.Tests.{eqb-true, eqb-false, not-true}
 use Rattle.answers.proofs.Tests.{and-left, and-right, not-both}
-use Rattle.hopping.specs.Hopping.{lineArfcn}
-use Rattle.hopping.specs.Masks.{oneAtOrAbove}
-use Rattle.hopping.proofs.Apart.{Fit, apart}
-use Rattle.frame_map.specs.Channels.{isCommon}
-use Rattle.frame_map.specs.Combinations.{rowsOf}
-use Rattle.frame_map.specs.Rows.{Row, stands, told}
-use Rattle.frame_map.proofs.OneChannel.{rows-one-channel}
+use Rattle.hops.specs.Hopping.{lineArfcn}
+use Rattle.hops.specs.Masks.{oneAtOrAbove}
+use Rattle.hops.proofs.Apart.{Fit, apart}
+use Rattle.maps.specs.Channels.{isCommon}
+use Rattle.maps.specs.Combinations.{rowsOf}
+use Rattle.maps.specs.Rows.{Row, stands, told}
+use Rattle.maps.proofs.OneChannel.{rows-one-channel}
 use Rattle.rules.specs.State.{Cell, Values, allocation}
 use Rattle.rules.specs.Calls.{Step, physical, startOf}
 use Rattle.rules.specs.History.{Call, Made, openedWith, cellFrom}

@@ -7,13 +7,13 @@ use borrow.Author.Tests.{le-ltb}
 use Rattle.answers.specs.Outcome.{accepted, decide, anyOf}
 use Rattle.answers.specs.Search.{allBelow, anyBelow, countBelow, least}
 use Rattle.answers.proofs.Decide.{passes, accepts}
-use Rattle.hopping.specs.Masks.{onesBelow, positionAt, oneAtOrAbove, shareOne}
-use Rattle.hopping.specs.Allocation.{isAllocation}
-use Rattle.hopping.specs.Hopping.{rntable, nbin, S, maiOf, positionOf, hopOf}
-use Rattle.hopping.specs.Clash.{clash}
-use Rattle.frame_map.specs.Rows.{numbered, each, from, standing}
-use Rattle.frame_map.specs.Combinations.{fullRate, halfRate, uncombined, combined, additional, sdcch8, combinations, among, rowsAmong, rowsOf, isCombination}
-use Rattle.frame_map.specs.Map.{mapOf}
+use Rattle.hops.specs.Masks.{onesBelow, positionAt, oneAtOrAbove, shareOne}
+use Rattle.hops.specs.Allocation.{isAllocation}
+use Rattle.hops.specs.Hopping.{rntable, nbin, S, maiOf, positionOf, hopOf}
+use Rattle.hops.specs.Clash.{clash}
+use Rattle.maps.specs.Rows.{numbered, each, from, standing}
+use Rattle.maps.specs.Combinations.{fullRate, halfRate, uncombined, combined, additional, sdcch8, combinations, among, rowsAmong, rowsOf, isCombination}
+use Rattle.maps.specs.Map.{mapOf}
 use Rattle.paging.specs.Paging.{pagingOf}
 use Rattle.paging.proofs.Drill.{one-line, drill}
 use Rattle.rules.specs.State.{tabulate, closedLine, empty}

@@ -4,15 +4,15 @@ use mathlib.Core.List.{[], _∷_}
 use mathlib.Core.Option.{none, some}
 use Rattle.answers.specs.Outcome.{alone, anyOf, decide, accepted}
 use Rattle.answers.specs.Search.{allBelow, anyBelow, least}
-use Rattle.hopping.specs.Masks.{onesBelow, positionAt, oneAtOrAbove, shareOne}
-use Rattle.hopping.specs.Allocation.{isAllocation}
-use Rattle.hopping.specs.Clash.{clash}
-use Rattle.hopping.specs.Hopping.{rntable, nbin, S, maiOf, positionOf}
-use Rattle.frame_map.specs.declared.Kind.the-variants.{Tch, Sch}
-use Rattle.frame_map.specs.Channels.{at}
-use Rattle.frame_map.specs.Rows.{numbered, each, from, standing}
-use Rattle.frame_map.specs.Combinations.{combinations, among, rowsAmong, fullRate, halfRate, uncombined, combined, additional, sdcch8}
-use Rattle.frame_map.specs.Map.{mapOf}
+use Rattle.hops.specs.Masks.{onesBelow, positionAt, oneAtOrAbove, shareOne}
+use Rattle.hops.specs.Allocation.{isAllocation}
+use Rattle.hops.specs.Clash.{clash}
+use Rattle.hops.specs.Hopping.{rntable, nbin, S, maiOf, positionOf}
+use Rattle.maps.specs.declared.Kind.the-variants.{Tch, Sch}
+use Rattle.maps.specs.Channels.{at}
+use Rattle.maps.specs.Rows.{numbered, each, from, standing}
+use Rattle.maps.specs.Combinations.{combinations, among, rowsAmong, fullRate, halfRate, uncombined, combined, additional, sdcch8}
+use Rattle.maps.specs.Map.{mapOf}
 use Rattle.rules.specs.State.{tabulate, closedLine, empty}
 use Rattle.rules.specs.Calls.{startOf, openOf, closeOf, seizeOf, releaseOf}
 use Rattle.rules.specs.History.{lastAccepted, openedWith, since, heldBy}

@@ -11,14 +11,14 @@ use Rattle.answers.specs.Outcome.{accepted, anyOf}
 use Rattle.answers.proofs.Decide.{passes, accepts, none-holds}
 use Rattle.answers.proofs.Tests.{lt-not-ltb}
 use Rattle.clock.specs.Clock.{hyperframe}
-use Rattle.hopping.specs.Hopping.{positionOf, linePosition, lineArfcn}
-use Rattle.hopping.proofs.Apart.{line-within}
-use Rattle.frame_map.specs.Channels.{Standing, isCommon}
-use Rattle.frame_map.specs.Combinations.{rowsOf}
-use Rattle.frame_map.specs.Map.{outOfRange, mapOf}
-use Rattle.frame_map.specs.Rows.{standing}
-use Rattle.frame_map.proofs.Range.{accepted-map}
-use Rattle.frame_map.proofs.Stood.{Stood, standing-stood}
+use Rattle.hops.specs.Hopping.{positionOf, linePosition, lineArfcn}
+use Rattle.hops.proofs.Apart.{line-within}
+use Rattle.maps.specs.Channels.{Standing, isCommon}
+use Rattle.maps.specs.Combinations.{rowsOf}
+use Rattle.maps.specs.Map.{outOfRange, mapOf}
+use Rattle.maps.specs.Rows.{standing}
+use Rattle.maps.proofs.Range.{accepted-map}
+use Rattle.maps.proofs.Stood.{Stood, standing-stood}
 use Rattle.rules.specs.State.{Cell, LineState, Values, ownerRoom, lineWith, isOpen, lineAt, ownerAt, allocation}
 use Rattle.rules.specs.OnAir.{entryAt, inFrame, ownerOf, slotOf, lineOf}
 use Rattle.rules.specs.History.{Made, openedWith, heldBy, cellFrom}

@@ -5,7 +5,7 @@ use mathlib.Core.Bool.{Bool, true, false, not, _&&_, _||_, cond}
 use mathlib.Core.List.{List}
 use lib.Dec.{eqb, lit≤}
 use borrow.Author.Tests.{eq-eqb, ne-eqb}
-use Rattle.frame_map.specs.Channels.{Standing}
+use Rattle.maps.specs.Channels.{Standing}
 use Rattle.rules.specs.Calls.{subchannels}
 use Rattle.rules.specs.OnAir.{Slot}
 

@@ -13,9 +13,9 @@ use Rattle.answers.specs.Outcome.{accepted}
 use Rattle.answers.proofs.Decide.{accepted-has-none}
 use Rattle.answers.proofs.Tests.{and-left}
 use Rattle.clock.specs.Clock.{hyperframe}
-use Rattle.frame_map.specs.Combinations.{rowsOf}
-use Rattle.frame_map.specs.Map.{mapOf}
-use Rattle.frame_map.specs.Rows.{standing}
+use Rattle.maps.specs.Combinations.{rowsOf}
+use Rattle.maps.specs.Map.{mapOf}
+use Rattle.maps.specs.Rows.{standing}
 use Rattle.paging.specs.declared.PagingBlock.{PagingBlock}
 use Rattle.paging.specs.Paging.{Common, lastThree, n, r, timeslot, isMultiframe, block, commonIn, isPaged, later, wait, blockFor, isImsi, pagingCauses, pagingOf}
 use Rattle.paging.proofs.BlockFrames.{start-below}

@@ -10,11 +10,11 @@ use Rattle.answers.specs.Outcome.{Outcome, accepted}
 use Rattle.answers.proofs.Decide.{decided}
 use Rattle.answers.proofs.Tests.{and-left, and-right}
 use Rattle.clock.specs.Clock.{hyperframe}
-use Rattle.frame_map.specs.Channels.{Standing, isCommon}
-use Rattle.frame_map.specs.Combinations.{rowsOf}
-use Rattle.frame_map.specs.Rows.{stands, told, standing}
-use Rattle.frame_map.proofs.OneChannel.{one-channel}
-use Rattle.frame_map.proofs.Stood.{Stood, stood, standing-stood}
+use Rattle.maps.specs.Channels.{Standing, isCommon}
+use Rattle.maps.specs.Combinations.{rowsOf}
+use Rattle.maps.specs.Rows.{stands, told, standing}
+use Rattle.maps.proofs.OneChannel.{one-channel}
+use Rattle.maps.proofs.Stood.{Stood, stood, standing-stood}
 use Rattle.rules.specs.State.{Cell, LineState, Values, lineAt}
 use Rattle.rules.specs.OnAir.{Slot, ownerOf, slotOf, lineCauses, lineOf}
 use Rattle.rules.specs.History.{Made, openedWith, heldBy, cellFrom}

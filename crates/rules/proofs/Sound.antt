@@ -14,10 +14,10 @@ use Rattle.answers.specs.Search.{anyBelow}
 use Rattle.answers.proofs.Decide.{None, decided}
 use Rattle.answers.proofs.Search.{any-at}
 use Rattle.answers.proofs.Tests.{and-both, refute, not-both}
-use Rattle.hopping.specs.Masks.{ones, oneAtOrAbove}
-use Rattle.hopping.specs.Clash.{clash}
-use Rattle.frame_map.specs.Combinations.{isCombination}
-use Rattle.frame_map.proofs.Range.{combination-zero}
+use Rattle.hops.specs.Masks.{ones, oneAtOrAbove}
+use Rattle.hops.specs.Clash.{clash}
+use Rattle.maps.specs.Combinations.{isCombination}
+use Rattle.maps.proofs.Range.{combination-zero}
 use Rattle.rules.specs.State.{Cell, LineState, Values, lineCount, lineWith, closedLine, isOpen, lineAt}
 use Rattle.rules.specs.Calls.{Step, step, openRange, noAllocation, noMaio, physical, linePhysical, inTheWay, openCauses, openOf, closeCauses, closeOf, seizeCauses, seizeOf, releaseCauses, releaseOf}
 use Rattle.rules.specs.History.{Call, opens, closes, seizes, releases, Made, openedWith, lastAccepted, heldBy, lineOr, cellFrom}

@@ -11,10 +11,10 @@ use Rattle.answers.specs.Search.{allBelow}
 use Rattle.answers.proofs.Search.{all-at}
 use Rattle.answers.proofs.Tables.{every}
 use Rattle.answers.proofs.Tests.{and-left, and-right, or-rest, lt-not-ltb}
-use Rattle.frame_map.specs.Channels.{isCommon}
-use Rattle.frame_map.specs.Rows.{Row, numbered, each, from}
-use Rattle.frame_map.specs.Combinations.{Combination, fullRate, halfRate, uncombined, combined, additional, sdcch8, combinations, rowsAmong, rowsOf}
-use Rattle.frame_map.proofs.Stood.{every-member}
+use Rattle.maps.specs.Channels.{isCommon}
+use Rattle.maps.specs.Rows.{Row, numbered, each, from}
+use Rattle.maps.specs.Combinations.{Combination, fullRate, halfRate, uncombined, combined, additional, sdcch8, combinations, rowsAmong, rowsOf}
+use Rattle.maps.proofs.Stood.{every-member}
 use Rattle.rules.specs.Calls.{subchannels}
 use Rattle.rules.proofs.Lines.{has-room}
 

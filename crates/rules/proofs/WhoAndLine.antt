@@ -14,8 +14,8 @@ use Rattle.answers.proofs.Decide.{passes, accepts, NoCause, accepted-has-none}
 use Rattle.answers.proofs.Search.{First, any-at, first-of, first-or-none, least-first, any-none}
 use Rattle.answers.proofs.Tests.{and-left, and-right, and-both}
 use Rattle.clock.specs.Clock.{hyperframe}
-use Rattle.hopping.specs.Hopping.{linePosition, lineArfcn}
-use Rattle.hopping.proofs.Apart.{line-within, entry-arfcn}
+use Rattle.hops.specs.Hopping.{linePosition, lineArfcn}
+use Rattle.hops.proofs.Apart.{line-within, entry-arfcn}
 use Rattle.rules.specs.State.{Cell, LineState, Values, lineCount, isOpen, lineAt, allocation}
 use Rattle.rules.specs.OnAir.{Slot, arfcnIn, slotOf, lineCauses, lineOf}
 use Rattle.rules.specs.Who.{lineIsOn, Match, matchAt, whoCauses, matchOf, whoOf, lineFound}

@@ -9,10 +9,10 @@ use Rattle.answers.specs.Outcome.{Refused, Outcome, refused, accepted, Cause, c
 use Rattle.answers.specs.Refusals.{refusalIn}
 use Rattle.answers.specs.declared.Answer.{Answer}
 use Rattle.answers.specs.Search.{anyBelow, least}
-use Rattle.hopping.specs.Masks.{contains, ones, oneAtOrAbove}
-use Rattle.hopping.specs.Allocation.{isAllocation}
-use Rattle.hopping.specs.Clash.{Physical, clash}
-use Rattle.frame_map.specs.Combinations.{isCombination}
+use Rattle.hops.specs.Masks.{contains, ones, oneAtOrAbove}
+use Rattle.hops.specs.Allocation.{isAllocation}
+use Rattle.hops.specs.Clash.{Physical, clash}
+use Rattle.maps.specs.Combinations.{isCombination}
 use Rattle.rules.specs.State.{Cell, LineState, Values, lineCount, ownerRoom, lineWith, free, closedLine, isOpen, lineAt, ownerAt, empty}
 
 -- ---- what a call hands back

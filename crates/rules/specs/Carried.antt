@@ -7,10 +7,10 @@ use mathlib.Core.Bool.{Bool, true, not, _&&_}
 use mathlib.Core.List.{List, List·Memᴰ}
 use mathlib.Core.Option.{some}
 use lib.Dec.{eqb}
-use Rattle.hopping.specs.Hopping.{lineArfcn}
-use Rattle.frame_map.specs.Channels.{Standing, isCommon}
-use Rattle.frame_map.specs.Combinations.{rowsOf}
-use Rattle.frame_map.specs.Rows.{Row, stands, told}
+use Rattle.hops.specs.Hopping.{lineArfcn}
+use Rattle.maps.specs.Channels.{Standing, isCommon}
+use Rattle.maps.specs.Combinations.{rowsOf}
+use Rattle.maps.specs.Rows.{Row, stands, told}
 use Rattle.rules.specs.State.{Cell, Values, allocation}
 use Rattle.rules.specs.History.{Made, openedWith, heldBy}
 

@@ -9,10 +9,10 @@ use mathlib.Core.Option.{Option, none, some}
 use lib.Dec.{eqb}
 use Rattle.answers.specs.Outcome.{Refused, accepted}
 use Rattle.clock.specs.Clock.{hyperframe}
-use Rattle.hopping.specs.Hopping.{lineArfcn}
-use Rattle.frame_map.specs.Channels.{Standing}
-use Rattle.frame_map.specs.Combinations.{rowsOf}
-use Rattle.frame_map.specs.Rows.{standing}
+use Rattle.hops.specs.Hopping.{lineArfcn}
+use Rattle.maps.specs.Channels.{Standing}
+use Rattle.maps.specs.Combinations.{rowsOf}
+use Rattle.maps.specs.Rows.{standing}
 use Rattle.rules.specs.State.{Cell, Values, lineAt, allocation}
 use Rattle.rules.specs.Calls.{Step, startOf, openOf, closeOf, seizeOf, releaseOf}
 use Rattle.rules.specs.OnAir.{Slot, ownerOf, lineOf}

@@ -6,10 +6,10 @@ use mathlib.Core.List.{List, [], _∷_}
 use mathlib.Core.Option.{none, some}
 use Rattle.answers.specs.Outcome.{accepted}
 use Rattle.clock.specs.Clock.{splitOf, joinOf}
-use Rattle.hopping.specs.Hopping.{hopOf}
-use Rattle.frame_map.specs.declared.Kind.the-variants.{Tch, Sacch, Sdcch, Ccch, Rach}
-use Rattle.frame_map.specs.Channels.{at}
-use Rattle.frame_map.specs.Map.{mapOf}
+use Rattle.hops.specs.Hopping.{hopOf}
+use Rattle.maps.specs.declared.Kind.the-variants.{Tch, Sacch, Sdcch, Ccch, Rach}
+use Rattle.maps.specs.Channels.{at}
+use Rattle.maps.specs.Map.{mapOf}
 use Rattle.paging.specs.Paging.{pagingOf}
 use Rattle.rules.specs.State.{Cell}
 use Rattle.rules.specs.Calls.{startOf}

@@ -6,9 +6,9 @@ use lib.Dec.{ltb, leb}
 use lib.ListN.{getD}
 use Rattle.answers.specs.Outcome.{Outcome, refused, accepted, Cause, cause, decide}
 use Rattle.clock.specs.Clock.{hyperframe}
-use Rattle.hopping.specs.Hopping.{positionOf}
-use Rattle.frame_map.specs.Channels.{Standing, isCommon}
-use Rattle.frame_map.specs.Map.{mapOf}
+use Rattle.hops.specs.Hopping.{positionOf}
+use Rattle.maps.specs.Channels.{Standing, isCommon}
+use Rattle.maps.specs.Map.{mapOf}
 use Rattle.rules.specs.State.{Cell, LineState, isOpen, lineAt, ownerAt}
 
 -- "the ARFCN, and idle or the channel with s, blocks, places and owner": the list is empty for idle

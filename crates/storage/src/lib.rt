@@ -217,7 +217,7 @@ fn put_allocation(cell: &mut [u32], ca: &[u16])
 {
     let mut k = 0;
     while k < 64 {
-        cell[k as usize] = hopping::allocation::entry(ca, k);
+        cell[k as usize] = cell_allocation::entry(ca, k);
         k += 1;
     }
 }

@@ -4,7 +4,7 @@ use mathlib.Core.Path.{_≡_}
 use mathlib.Core.List.{List}
 use mathlib.Core.Option.{Option, none, some}
 use Rattle.answers.specs.Outcome.{Outcome, refused, accepted}
-use Rattle.frame_map.specs.Numbers.{Numbers, noNumbers, standingNumbers}
+use Rattle.maps.specs.Numbers.{Numbers, noNumbers, standingNumbers}
 use Rattle.storage.specs.Words.{cellOf}
 use Rattle.rules.specs.Calls.{Step}
 use Rattle.rules.specs.OnAir.{Slot}

@@ -19,8 +19,8 @@ use hopping::Positioned;
 ghost use mathlib.Core.Path.{_≡_};
 ghost use Prim.Native.Nat.{_*_, _/_, _%_, _^_, _<_};
 ghost use Rattle.clock.specs.Clock.{splitOf, joinOf};
-ghost use Rattle.hopping.specs.Hopping.{positionOf, hopOf};
-ghost use Rattle.frame_map.specs.Map.{mapOf};
+ghost use Rattle.hops.specs.Hopping.{positionOf, hopOf};
+ghost use Rattle.maps.specs.Map.{mapOf};
 ghost use Rattle.c_answers.specs.Numbers.{splitNumbers, joinNumbers, positionNumbers, hopNumbers, mapNumbers};
 
 // FN to T1, T2, T3 and T3'.

@@ -14,8 +14,8 @@ use Rattle.answers.specs.declared.Answer.the-variants.{Accepted}
 use Rattle.answers.proofs.Decide.{combined, any-combined, refused-by, accepted-by}
 use Rattle.answers.proofs.Search.{any-least}
 use Rattle.answers.proofs.Tests.{le-not-ltb, lt-not-ltb}
-use Rattle.hopping.specs.Masks.{ones}
-use Rattle.hopping.proofs.Bits.{count-ones}
+use Rattle.hops.specs.Masks.{ones}
+use Rattle.hops.proofs.Bits.{count-ones}
 use Rattle.rules.specs.State.{Cell, Values, isOpen, lineAt}
 use Rattle.storage.specs.Words.{cellOf}
 use Rattle.rules.specs.Calls.{Step, step, changed, openRange, noAllocation, noMaio, misplaced, inTheWay, openCauses, openOf}

@@ -11,8 +11,8 @@ use Rattle.answers.specs.Outcome.{Cause}
 use Rattle.answers.specs.declared.Answer.the-variants.{Accepted}
 use Rattle.answers.proofs.Decide.{refused-by, accepted-by}
 use Rattle.answers.proofs.Search.{any-least}
-use Rattle.hopping.specs.Allocation.{isAllocation}
-use Rattle.hopping.proofs.Apart.{at-most-64}
+use Rattle.hops.specs.Allocation.{isAllocation}
+use Rattle.hops.proofs.Apart.{at-most-64}
 use Rattle.rules.specs.Calls.{step, changed, lists, startCauses, refusedCell, startOf}
 use Rattle.storage.specs.Words.{cellOf}
 use Rattle.storage.proofs.Storage.{start-put}

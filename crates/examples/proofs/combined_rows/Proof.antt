@@ -1,5 +1,5 @@
 -- `combined_rows` meets its contract: each check follows from what the question promises and the sheet's row. Assumes nothing.
-use Rattle.frame_map.specs.Numbers.{standingNumbers}
+use Rattle.maps.specs.Numbers.{standingNumbers}
 use Rattle.rules.proofs.DrillSheet.{drill-sheet}
 use Rattle.examples.proofs.Checks.{on-line}
 use Rattle.examples.proofs.combined_rows.Statement.{statement}

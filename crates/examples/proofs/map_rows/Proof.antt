@@ -1,7 +1,7 @@
 -- `map_rows` meets its contract: each check follows from what the question promises and the sheet's row. Assumes nothing.
 use mathlib.Core.Path.{ap, _∙_}
 use lib.Dec.{lit≤}
-use Rattle.frame_map.specs.Numbers.{standingNumbers, numbersOf}
+use Rattle.maps.specs.Numbers.{standingNumbers, numbersOf}
 use Rattle.c_answers.specs.Numbers.{mapNumbers}
 use Rattle.rules.proofs.DrillSheet.{drill-sheet}
 use Rattle.examples.proofs.map_rows.Statement.{statement}

@@ -1,5 +1,5 @@
 -- `page_rows` meets its contract: each check follows from what the question promises and the sheet's row. Assumes nothing.
-use Rattle.frame_map.specs.Numbers.{standingNumbers}
+use Rattle.maps.specs.Numbers.{standingNumbers}
 use Rattle.tdma.specs.Cells.{pageNumbers}
 use Rattle.rules.specs.Paging.{pageOf}
 use Rattle.rules.specs.DrillSheet.{imsi}

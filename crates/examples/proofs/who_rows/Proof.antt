@@ -1,6 +1,6 @@
 -- `who_rows` meets its contract: each check follows from what the question promises and the sheet's row. Assumes nothing.
 use mathlib.Core.Path.{_≡_, ap, _∙_}
-use Rattle.frame_map.specs.Numbers.{standingNumbers}
+use Rattle.maps.specs.Numbers.{standingNumbers}
 use Rattle.tdma.specs.Cells.{matchNumbers, nobody, whoNumbers}
 use Rattle.rules.specs.Who.{whoOf}
 use Rattle.rules.specs.DrillSheet.{cyclicSlot}

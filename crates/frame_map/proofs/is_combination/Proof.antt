@@ -2,7 +2,7 @@
 use mathlib.Core.Path.{sym}
 use native.Mathlib.Omega.{arith}
 use borrow.Author.Tests.{not-true}
-use Rattle.frame_map.proofs.Range.{combination-above, combination-three, combination-last}
+use Rattle.maps.proofs.Range.{combination-above, combination-three, combination-last}
 use Rattle.frame_map.proofs.is_combination.Statement.{statement}
 use Rattle.frame_map.proofs.is_combination.Tie as tie
 

@@ -1,10 +1,10 @@
 -- `map` meets its contract: it is refused exactly out of range, and else what stands in the frame is taken from its bytes. Assumes nothing.
 use mathlib.Core.Path.{sym, ap, _∙_}
 use Rattle.answers.specs.Outcome.{accepted}
-use Rattle.frame_map.specs.Codes.{numbersAt, standingOf}
+use Rattle.maps.specs.Numbers.{numbersAt, standingOf}
 use Prim.Native.Nat.{ℕ}
-use Rattle.frame_map.proofs.Range.{other-ranges, accepted-map, refused-map}
-use Rattle.frame_map.proofs.Unpacked.{standing-back}
+use Rattle.maps.proofs.Range.{other-ranges, accepted-map, refused-map}
+use Rattle.maps.proofs.Unpacked.{standing-back}
 use borrow.Author.Needs.{needs}
 use Rattle.frame_map.proofs.map.Statement.{statement}
 use Rattle.frame_map.proofs.map.Tie as tie

@@ -2,9 +2,9 @@
 use mathlib.Core.Path.{sym, ap, _∙_}
 use mathlib.Core.List.{List}
 use Rattle.answers.specs.Outcome.{Outcome}
-use Rattle.frame_map.specs.Channels.{Standing}
-use Rattle.frame_map.specs.Numbers.{numbersOf, bytes}
-use Rattle.frame_map.proofs.Range.{accepted-map, refused-map}
+use Rattle.maps.specs.Channels.{Standing}
+use Rattle.maps.specs.Numbers.{numbersOf, bytes}
+use Rattle.maps.proofs.Range.{accepted-map, refused-map}
 use borrow.Author.Needs.{needs}
 use Rattle.frame_map.proofs.map_bytes.Statement.{statement}
 use Rattle.frame_map.proofs.map_bytes.Tie as tie

@@ -7,8 +7,8 @@ use borrow.Author.Needs.{needs}
 use borrow.Author.Tests.{le-ltb, lt-ltb, not-false}
 use Rattle.answers.specs.Outcome.{anyOf}
 use Rattle.answers.proofs.Decide.{holds, none-holds}
-use Rattle.frame_map.specs.Combinations.{isCombination}
-use Rattle.frame_map.specs.Map.{outOfRange}
+use Rattle.maps.specs.Combinations.{isCombination}
+use Rattle.maps.specs.Map.{outOfRange}
 use Rattle.frame_map.proofs.out_of_range.Statement.{statement}
 use Rattle.frame_map.proofs.out_of_range.Tie as tie
 

@@ -9,9 +9,10 @@ use borrow.Author.Needs.{needs}
 use borrow.Author.Tests.{not-true, not-false}
 use Rattle.answers.specs.Outcome.{Refused, refused, accepted, alone}
 use Rattle.answers.proofs.Decide.{stops, passes, answered, decide-answered}
-use Rattle.hopping.specs.Allocation.{isAllocation}
-use Rattle.hopping.specs.Hopping.{positionCauses, linePosition, positionOf, hopOf, positionSays}
-use Rattle.hopping.proofs.Apart.{at-most-64}
+use Rattle.hops.specs.Allocation.{isAllocation}
+use Rattle.hops.specs.Hopping.{positionCauses, linePosition, positionOf, hopOf}
+use Rattle.hopping.specs.Answers.{positionSays}
+use Rattle.hops.proofs.Apart.{at-most-64}
 use Rattle.hopping.proofs.hop.Statement.{statement}
 use Rattle.hopping.proofs.hop.Tie as tie
 

@@ -1,20 +1,21 @@
 -- `hopping::position` meets its contract: its tests are the causes, in order, and then MAI and its position are the definitions'. Assumes nothing.
 use Prim.Native.Nat.{ℕ, _≤_, _<_}
 use mathlib.Core.Path.{_≡_, sym, ap, _∙_}
-use mathlib.Core.Bool.{true, false}
+use mathlib.Core.Bool.{Bool, true, false, cond}
 use native.Mathlib.Omega.{arith}
 use lib.Count as Count
 use borrow.Author.Needs.{needs}
-use borrow.Author.Tests.{eq-eqb, ne-eqb}
+use borrow.Author.Tests.{lt-ltb, eq-eqb, ne-eqb}
 use Rattle.answers.specs.Outcome.{refused, accepted, alone}
 use Rattle.answers.proofs.Decide.{stops, passes, accepts}
 use Rattle.answers.proofs.Tests.{le-not-ltb, lt-not-ltb}
 use Rattle.clock.specs.Clock.{hyperframe, partsOf, splitSays}
 use Rattle.clock.proofs.RoundTrip.{split-parts, split-none}
-use Rattle.hopping.specs.Masks.{ones, positionAt, oneAtOrAbove}
-use Rattle.hopping.specs.Hopping.{maiOf, linePosition, positionOf}
-use Rattle.hopping.proofs.Bits.{count-ones, ones-at-most}
-use Rattle.hopping.proofs.Mai.{mai-lt}
+use Rattle.hops.specs.Masks.{ones, oneAtOrAbove}
+use Rattle.hops.specs.Hopping.{maiOf, linePosition, positionOf}
+use Rattle.hops.proofs.Bits.{count-ones, ones-at-most}
+use Rattle.hops.proofs.Mai.{mai-lt}
+use Rattle.select.specs.Select.{selectOf}
 use Rattle.hopping.proofs.position.Statement.{statement}
 use Rattle.hopping.proofs.position.Tie as tie
 
@@ -50,6 +51,11 @@ module _ (length m hsn maio fn : ℕ) where
       placed l =
           sym (passes _ _ _ (lt-not-ltb hsn 64 (omega arith), (lt-not-ltb _ _ f, tt))
           ∙ (passes _ _ _ (ne-eqb _ _ z, (a, tt)) ∙ (passes _ _ _ (lt-not-ltb _ _ l, tt) ∙ accepts _)))
+
+-- MAI is below N, so that the mask has a one with MAI ones below it
+selected : (m hsn maio fn : ℕ) → maio < ones m → selectOf m (maiOf (ones m) hsn maio fn) ≡ linePosition m hsn maio fn
+selected m hsn maio fn h =
+    ap (λ (t : Bool). cond t (linePosition m hsn maio fn) 63) (lt-ltb _ _ (mai-lt (ones m) hsn maio fn (omega arith)))
 
 -- ---- what is known on the way
 
@@ -101,16 +107,15 @@ mai-requires c κs =
     (omega arith, omega arith, omega arith, known (c .before) .0, known (c .before) .1)
 
 position-at-requires : tie.Need-position-at-requires
-position-at-requires c κs =
-    let e = mai-is c in
-    let n = n-is (c .before .before) in
-    omega (arith, mai-lt (ones (c .before .before .before .before .before .before .before .before .before .before .args .mask)) (c .before .before .before .before .before .before .before .before .before .before .args .hsn) (c .before .before .before .before .before .before .before .before .before .before .args .maio) (c .before .before .before .before .before .before .before .before .before .before .args .number) (omega arith))
+position-at-requires c κs = search needs
 
 returns-6 : tie.Need-returns-6
 returns-6 c =
-    ap accepted (c .position-at .ensures ∙ ap (λ (i : ℕ). positionAt (c .before .before .before .before .before .before .before .before .before .before .before .args .mask) i) (mai-is (c .before)))
+    let x = c .before .before .before .before .before .before .before .before .before .before .before .args in
+    let n = n-is (c .before .before .before) in
+    ap accepted (c .position-at .ensures ∙ (ap (selectOf (x .mask)) (mai-is (c .before)) ∙ selected (x .mask) (x .hsn) (x .maio) (x .number) (omega arith)))
     ∙ placed _ _ _ _ _ (c .before .before .before .before .before .before .before .before .before .before .if1 .left) (known (c .before .before .before) .0) (c .before .before .before .before .before .if2 .left)
-    (sym (c .before .before .before .before .one-at-or-above .ensures) ∙ c .before .before .before .if3 .left) (let n = n-is (c .before .before .before) in omega arith)
+    (sym (c .before .before .before .before .one-at-or-above .ensures) ∙ c .before .before .before .if3 .left) (omega arith)
 
 pub position-spec : {M : Type 1} → statement M
 position-spec =

@@ -2,7 +2,7 @@
 use Prim.Native.Nat.{ℕ}
 use mathlib.Core.Path.{sym, ap, _∙_}
 use borrow.Author.Needs.{needs}
-use Rattle.hopping.specs.Hopping.{hopSays}
+use Rattle.hopping.specs.Answers.{hopSays}
 use Rattle.c_answers.specs.Numbers.{hopNumbers}
 use Rattle.c_answers.specs.declared.TdmaHop.{TdmaHop}
 use Rattle.tdma.proofs.tdma_hop.Statement.{statement}

@@ -1,8 +1,8 @@
 -- `tdma::tdma_map` meets its contract: the bytes of `map_bytes`, one by one. Assumes nothing.
 use mathlib.Core.Path.{ap, _∙_}
-use Rattle.frame_map.proofs.Unpacked.{numbers, eight}
-use Rattle.frame_map.specs.Codes.{numbersAt}
-use Rattle.frame_map.proofs.Range.{map-numbers}
+use Rattle.maps.proofs.Unpacked.{numbers, eight}
+use Rattle.maps.specs.Numbers.{numbersAt}
+use Rattle.maps.proofs.Range.{map-numbers}
 use Rattle.c_answers.specs.Numbers.{mapFields}
 use borrow.Author.Needs.{needs}
 use Rattle.tdma.proofs.tdma_map.Statement.{statement}

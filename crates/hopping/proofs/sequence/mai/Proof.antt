@@ -5,8 +5,8 @@ use native.Mathlib.Omega.{arith}
 use borrow.Author.Needs.{needs}
 use Rattle.clock.specs.declared.Frame.{Frame}
 use Rattle.clock.specs.Clock.{T2, T3, partsOf}
-use Rattle.hopping.specs.Hopping.{S}
-use Rattle.hopping.proofs.Mai.{s-lt, mai-cyclic, mai-random}
+use Rattle.hops.specs.Hopping.{S}
+use Rattle.hops.proofs.Mai.{s-lt, mai-cyclic, mai-random}
 use Rattle.hopping.proofs.sequence.mai.Statement.{statement}
 use Rattle.hopping.proofs.sequence.mai.Tie as tie
 

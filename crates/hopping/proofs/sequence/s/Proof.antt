@@ -8,8 +8,9 @@ use lib.Count.{leading-le}
 use lib.ListN.{getD}
 use borrow.Author.Needs.{needs}
 use Rattle.clock.specs.declared.Frame.{Frame}
-use Rattle.hopping.specs.Hopping.{rntable}
-use Rattle.hopping.proofs.Mai.{rn-le, index-lt, nbin-leading, nbin-le, room-pos, room-le, roomOf, twice-once, s-below, s-above}
+use Rattle.hops.specs.Hopping.{rntable}
+use Rattle.hops.proofs.Mai.{rn-le, index-lt, nbin-le}
+use Rattle.hopping.proofs.Computed.{nbin-leading, room-pos, room-le, roomOf, twice-once, s-below, s-above}
 use Rattle.hopping.proofs.sequence.s.Statement.{statement}
 use Rattle.hopping.proofs.sequence.s.Tie as tie
 

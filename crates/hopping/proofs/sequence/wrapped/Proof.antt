@@ -1,7 +1,7 @@
 -- `sequence::wrapped` meets its contract: below n it is its own remainder, and below twice n less n. Assumes nothing.
 use mathlib.Core.Path.{sym}
 use native.Mathlib.Nat.{mod-eq-of-lt}
-use Rattle.hopping.proofs.Mai.{less-once}
+use Rattle.hopping.proofs.Computed.{less-once}
 use Rattle.hopping.proofs.sequence.wrapped.Statement.{statement}
 use Rattle.hopping.proofs.sequence.wrapped.Tie as tie
 

@@ -1,7 +1,8 @@
 -- `air::arfcn` meets its contract: the entry is the one at the position. Assumes nothing.
 use Prim.Native.Nat.{ℕ}
 use mathlib.Core.Path.{_≡_, sym, ap, _∙_}
-use Rattle.hopping.specs.Hopping.{positionOf, positionSays}
+use Rattle.hops.specs.Hopping.{positionOf}
+use Rattle.hopping.specs.Answers.{positionSays}
 use Rattle.storage.specs.Words.{cellOf}
 use Rattle.rules.specs.OnAir.{entryAt}
 use borrow.Author.Needs.{needs}

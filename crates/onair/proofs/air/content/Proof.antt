@@ -1,7 +1,7 @@
 -- `air::content` meets its contract: what the map has, and nothing where it refuses. Assumes nothing.
 use mathlib.Core.Path.{sym, ap, _∙_}
 use borrow.Author.Needs.{needs}
-use Rattle.frame_map.specs.Map.{mapped}
+use Rattle.frame_map.specs.Answers.{mapped}
 use Rattle.rules.specs.OnAir.{inFrame}
 use Rattle.onair.proofs.air.content.Statement.{statement}
 use Rattle.onair.proofs.air.content.Tie as tie

@@ -1,7 +1,7 @@
 -- `air::on_air` meets its contract: the ARFCN, the content and the owner are the definitions'. Assumes nothing.
 use Prim.Native.Nat.{ℕ}
 use mathlib.Core.Path.{_≡_, ap, _∙_}
-use Rattle.frame_map.specs.Map.{mapOf}
+use Rattle.maps.specs.Map.{mapOf}
 use Rattle.rules.specs.State.{lineAt, ownerAt}
 use Rattle.storage.specs.Words.{cellOf}
 use Rattle.rules.specs.OnAir.{inFrame, ownerOf, slotOf}

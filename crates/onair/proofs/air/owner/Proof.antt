@@ -2,13 +2,13 @@
 use Prim.Native.Nat.{ℕ}
 use mathlib.Core.Path.{_≡_, refl, sym, ap, _∙_}
 use mathlib.Core.Bool.{Bool, true, false, cond}
-use Rattle.frame_map.specs.declared.Kind.{Kind}
-use Rattle.frame_map.specs.declared.Burst.{Burst}
-use Rattle.frame_map.specs.declared.Blocks.{Blocks}
-use Rattle.frame_map.specs.declared.Blocks.the-variants.{One, Two}
-use Rattle.frame_map.specs.declared.Content.the-variants.{Channel}
-use Rattle.frame_map.specs.Channels.{isCommon}
-use Rattle.frame_map.specs.Map.{carried, inBlocks}
+use Rattle.maps.specs.declared.Kind.{Kind}
+use Rattle.maps.specs.declared.Burst.{Burst}
+use Rattle.maps.specs.declared.Blocks.{Blocks}
+use Rattle.maps.specs.declared.Blocks.the-variants.{One, Two}
+use Rattle.maps.specs.declared.Content.the-variants.{Channel}
+use Rattle.maps.specs.Channels.{isCommon}
+use Rattle.maps.specs.Map.{carried, inBlocks}
 use Rattle.rules.specs.State.{lineAt, ownerAt}
 use Rattle.storage.specs.Words.{cellOf}
 use Rattle.rules.specs.OnAir.{ownerOf}

@@ -1,6 +1,6 @@
 -- `clash::clashes` meets its contract: its tests are the definition's. Assumes nothing.
 use mathlib.Core.Path.{refl}
-use Rattle.hopping.specs.Clash.{clash}
+use Rattle.hops.specs.Clash.{clash}
 use borrow.Author.Needs.{needs}
 use Rattle.placing.proofs.clash.clashes.Statement.{statement}
 use Rattle.placing.proofs.clash.clashes.Tie as tie

@@ -1,6 +1,6 @@
 -- `common::c0_alone` meets its contract: the count of ones is N. Assumes nothing.
 use mathlib.Core.Path.{refl}
-use Rattle.hopping.proofs.Bits.{count-ones}
+use Rattle.hops.proofs.Bits.{count-ones}
 use borrow.Author.Needs.{needs}
 use Rattle.placing.proofs.common.c0_alone.Statement.{statement}
 use Rattle.placing.proofs.common.c0_alone.Tie as tie

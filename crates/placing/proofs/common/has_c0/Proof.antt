@@ -7,7 +7,7 @@ use lib.Dec.{eqb}
 use lib.ListN.{getD}
 use borrow.Author.Count.{below-none, below-more}
 use Rattle.answers.proofs.Search.{any-at, any-none}
-use Rattle.hopping.specs.Masks.{contains}
+use Rattle.hops.specs.Masks.{contains}
 use Rattle.storage.specs.Words.{cellOf}
 use borrow.Author.Needs.{needs}
 use Rattle.placing.proofs.common.has_c0.Statement.{statement}

@@ -2,13 +2,13 @@
 use Prim.Native.Nat.{ℕ}
 use mathlib.Core.Path.{_≡_, refl, sym, ap, _∙_}
 use borrow.Author.Needs.{needs}
-use Rattle.frame_map.specs.declared.Blocks.{Blocks}
-use Rattle.frame_map.specs.declared.Blocks.the-variants.{One, Two}
-use Rattle.frame_map.specs.declared.Kind.{Kind}
-use Rattle.frame_map.specs.declared.Place.{Place}
-use Rattle.frame_map.specs.Channels.{kindNumber}
-use Rattle.frame_map.specs.Map.{inBlocks}
-use Rattle.frame_map.specs.Numbers.{standingNumbers}
+use Rattle.maps.specs.declared.Blocks.{Blocks}
+use Rattle.maps.specs.declared.Blocks.the-variants.{One, Two}
+use Rattle.maps.specs.declared.Kind.{Kind}
+use Rattle.maps.specs.declared.Place.{Place}
+use Rattle.maps.specs.Channels.{kindNumber}
+use Rattle.maps.specs.Map.{inBlocks}
+use Rattle.maps.specs.Numbers.{standingNumbers}
 use Rattle.c_answers.specs.declared.TdmaLine.{TdmaLine}
 use Rattle.tdma.specs.Cells.{lineFields}
 use Rattle.tdma.proofs.cells.burst_numbers.Statement.{statement}

@@ -2,9 +2,9 @@
 use Prim.Native.Nat.{ℕ}
 use mathlib.Core.Path.{sym, ap, _∙_}
 use borrow.Author.Needs.{needs}
-use Rattle.frame_map.specs.declared.Content.{Content}
-use Rattle.frame_map.specs.Map.{carried}
-use Rattle.frame_map.specs.Numbers.{standingNumbers}
+use Rattle.maps.specs.declared.Content.{Content}
+use Rattle.maps.specs.Map.{carried}
+use Rattle.maps.specs.Numbers.{standingNumbers}
 use Rattle.c_answers.specs.declared.TdmaLine.{TdmaLine}
 use Rattle.tdma.specs.Cells.{lineFields}
 use Rattle.tdma.proofs.cells.slot_numbers.Statement.{statement}

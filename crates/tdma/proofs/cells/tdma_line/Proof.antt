@@ -2,7 +2,7 @@
 use Prim.Native.Nat.{ℕ}
 use mathlib.Core.Path.{sym, ap, _∙_}
 use borrow.Author.Needs.{needs}
-use Rattle.frame_map.specs.Numbers.{noNumbers}
+use Rattle.maps.specs.Numbers.{noNumbers}
 use Rattle.onair.specs.Told.{aired}
 use Rattle.tdma.specs.Cells.{lineFields, lineNumbers}
 use Rattle.tdma.proofs.cells.tdma_line.Statement.{statement}

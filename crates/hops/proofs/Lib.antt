@@ -1,0 +1,5 @@
+pub mod Apart
+pub mod Bits
+pub mod Causes
+pub mod Drill
+pub mod Mai

@@ -1,0 +1,4 @@
+pub mod Masks
+pub mod Allocation
+pub mod Hopping
+pub mod Clash

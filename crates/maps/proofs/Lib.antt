@@ -1,0 +1,9 @@
+pub mod AllMaps
+pub mod Causes
+pub mod OneChannel
+pub mod Range
+pub mod Repeat
+pub mod Same
+pub mod Stood
+pub mod Unpacked
+pub mod Words

@@ -1,0 +1,5 @@
+pub mod Channels
+pub mod Rows
+pub mod Combinations
+pub mod Map
+pub mod Numbers
