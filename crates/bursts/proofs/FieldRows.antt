@@ -11,10 +11,10 @@ use borrow.Author.Tests.{eq-eqb, ne-eqb}
 use lib.ListN.{length, take, drop, getD, replicate, length-replicate}
 use Rattle.bursts.specs.declared.fields.Field.{Field}
 use Rattle.bursts.specs.declared.fields.Field.the-variants as Field
-use Rattle.bursts.specs.Layouts.{bits}
-use Rattle.bursts.specs.Rows.{Row, room, built, taken, isOther}
+use Rattle.layouts.specs.Layouts.{bits}
+use Rattle.layouts.specs.Rows.{Row, room, built, taken, isOther}
 use Rattle.bursts.specs.Helpers.{width, payloadOf, fieldRow, firstWrong}
-use Rattle.bursts.proofs.Bits.{length-bits}
+use Rattle.layouts.proofs.Bits.{length-bits}
 
 -- ---- fixed bits, and room for payload bits
 

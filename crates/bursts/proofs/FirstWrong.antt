@@ -9,7 +9,7 @@ use native.Mathlib.Omega.{arith}
 use lib.ListN.{length, drop, getD}
 use Rattle.answers.specs.Search.{anyBelow, least}
 use Rattle.answers.proofs.Search.{any-at, any-none, least-at}
-use Rattle.bursts.specs.Rows.{Row, isOther, differs}
+use Rattle.layouts.specs.Rows.{Row, isOther, differs}
 use Rattle.bursts.specs.Helpers.{firstWrong}
 use Rattle.bursts.proofs.FieldRows.{next-at}
 

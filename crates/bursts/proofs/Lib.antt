@@ -1,13 +1,4 @@
-pub mod Accepted
-pub mod Bits
 pub mod Calls
-pub mod Causes
 pub mod FieldRows
 pub mod FirstWrong
-pub mod FixedBits
-pub mod NormalCalls
-pub mod Places
-pub mod Printed
-pub mod Sizes
 pub mod Turns
-pub mod Undo

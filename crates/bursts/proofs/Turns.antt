@@ -9,7 +9,7 @@ use lib.ListN.{length, take, drop, getD, length-append, drop-of-length-le}
 use lib.Seq.{drop-cons, drop-drop, take-at, length-take-le}
 use Rattle.bursts.specs.declared.fields.Field.{Field}
 use Rattle.bursts.specs.declared.fields.Field.the-variants as Field
-use Rattle.bursts.specs.Rows.{Row, room, built, taken}
+use Rattle.layouts.specs.Rows.{Row, room, built, taken}
 use Rattle.bursts.specs.Helpers.{width, payloadOf, fieldRow, fieldsRow, firstWrong}
 use Rattle.bursts.proofs.FieldRows.{length-field, room-field, room-append, built-append, taken-append, wrong-left, wrong-right, wrong-le}
 

@@ -6,8 +6,8 @@ use mathlib.Core.Option.{some, none}
 use lib.ListN.{drop, replicate, getD}
 use Rattle.bursts.specs.declared.fields.Field.{Field}
 use Rattle.bursts.specs.declared.fields.Field.the-variants as Field
-use Rattle.bursts.specs.Layouts.{bits}
-use Rattle.bursts.specs.Rows.{Row, isOther}
+use Rattle.layouts.specs.Layouts.{bits}
+use Rattle.layouts.specs.Rows.{Row, isOther}
 
 -- the code's fields: a word in so many bits, first bit highest, or room for as many payload bits
 abbrev pub width : Field → ℕ

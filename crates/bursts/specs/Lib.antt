@@ -1,5 +1,1 @@
-pub mod Layouts
-pub mod Rows
-pub mod Bursts
-pub mod Claims
 pub mod Helpers

@@ -4,9 +4,9 @@ ghost use mathlib.Core.List.{map};
 ghost use mathlib.Core.Option.{some};
 ghost use Prim.Native.Nat.{_/_, _%_, _^_};
 ghost use lib.ListN.{length};
-ghost use Rattle.bursts.specs.Layouts.{bits};
-ghost use Rattle.bursts.specs.Rows.{built, taken};
-ghost use Rattle.bursts.specs.Bursts.{byteAboveOne};
+ghost use Rattle.layouts.specs.Layouts.{bits};
+ghost use Rattle.layouts.specs.Rows.{built, taken};
+ghost use Rattle.layouts.specs.Bursts.{byteAboveOne};
 ghost use Rattle.bursts.specs.Helpers.{width, payloadOf, fieldRow, firstWrong};
 
 pub enum Field {

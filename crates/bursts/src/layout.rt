@@ -12,8 +12,8 @@ use answers::Refusal;
 ghost use mathlib.Core.Path.{_≡_};
 ghost use Prim.Native.Nat.{_≤_};
 ghost use lib.ListN.{length, take};
-ghost use Rattle.bursts.specs.Rows.{room, built, taken};
-ghost use Rattle.bursts.specs.Bursts.{wrote, buildOf, takeOf};
+ghost use Rattle.layouts.specs.Rows.{room, built, taken};
+ghost use Rattle.layouts.specs.Bursts.{wrote, buildOf, takeOf};
 ghost use Rattle.bursts.specs.Helpers.{fieldsRow, firstWrong};
 
 // The burst with this payload, and 0 after it.

@@ -9,9 +9,9 @@ use layout::build;
 use layout::take;
 ghost use mathlib.Core.Path.{_≡_};
 ghost use Prim.Native.Nat.{_<_};
-ghost use Rattle.bursts.specs.Layouts.{normal};
-ghost use Rattle.bursts.specs.Rows.{rowOf};
-ghost use Rattle.bursts.specs.Bursts.{wrote, buildNormalOf, takeNormalOf, buildSynchronizationOf, takeSynchronizationOf, buildAccessOf, takeAccessOf, buildFrequencyCorrectionOf, buildDummyOf};
+ghost use Rattle.layouts.specs.Layouts.{normal};
+ghost use Rattle.layouts.specs.Rows.{rowOf};
+ghost use Rattle.layouts.specs.Bursts.{wrote, buildNormalOf, takeNormalOf, buildSynchronizationOf, takeSynchronizationOf, buildAccessOf, takeAccessOf, buildFrequencyCorrectionOf, buildDummyOf};
 ghost use Rattle.bursts.specs.Helpers.{fieldsRow};
 
 // The first 16 bits of the training codes, first bit highest.

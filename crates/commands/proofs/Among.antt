@@ -3,8 +3,8 @@ use Prim.Native.Nat.{ℕ, suc}
 use mathlib.Core.Path.{_≡_, refl, ap}
 use mathlib.Core.Bool.{Bool, true, false, cond}
 use mathlib.Core.List.{List, [], _∷_}
-use Rattle.text.specs.Words.{sameText}
-use Rattle.commands.specs.Names.{placeAmong}
+use Rattle.wording.specs.Words.{sameText}
+use Rattle.wording.specs.Names.{placeAmong}
 
 module _ (w : List ℕ) (k : ℕ) (n : List ℕ) (ns : List (List ℕ)) where
   pub hit : sameText w n ≡ true → placeAmong w k (n ∷ ns) ≡ k

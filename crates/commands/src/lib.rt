@@ -2,7 +2,7 @@
 use text::words::same;
 ghost use mathlib.Core.Path.{_≡_};
 ghost use lib.ListN.{drop};
-ghost use Rattle.commands.specs.Names.{placeAmong, commands, commandOf, burstOf};
+ghost use Rattle.wording.specs.Names.{placeAmong, commands, commandOf, burstOf};
 
 pub const SPLIT: u32 = 1;
 

@@ -5,12 +5,12 @@ use mathlib.Core.Bool.{true, false}
 use mathlib.Core.List.{List, [], _∷_, _++_}
 use mathlib.Core.Logic.{_≢_, _⊎_}
 use borrow.Author.Tests.{eq-eqb, ne-eqb}
-use Rattle.text.specs.Words.{ascii}
-use Rattle.text.specs.Print.{spaced}
+use Rattle.wording.specs.Words.{ascii}
+use Rattle.wording.specs.Print.{spaced}
 use Rattle.c_answers.specs.declared.TdmaSplit.{TdmaSplit}
 use Rattle.c_answers.specs.declared.TdmaLine.{TdmaLine}
 use Rattle.c_answers.specs.declared.TdmaWho.{TdmaWho}
-use Rattle.replies.specs.Replies.{hasValue, refusedText, answered, splitText, channels, channelText, contentText, slotText, lineText, whoText, reasons, reasonText}
+use Rattle.wording.specs.Replies.{hasValue, refusedText, answered, splitText, channels, channelText, contentText, slotText, lineText, whoText, reasons, reasonText}
 use Rattle.replies.proofs.Choices.{first, second, no-name}
 
 pub with-value : (r v : ℕ) → hasValue r ≡ true → refusedText r v ≡ ascii "refused" ++ spaced (r ∷ v ∷ []) ++ ascii "\n"

@@ -9,8 +9,8 @@ use text::print::put_bits;
 use text::print::put_number;
 use text::print::put_numbers;
 ghost use mathlib.Core.Path.{_≡_};
-ghost use Rattle.text.specs.Print.{Appended};
-ghost use Rattle.replies.specs.Replies.{hasValue, refusedText, numbersText, splitText, channelText, contentText, mapText, slotText, lineText, whoText, bitsText, reasonText, errorText};
+ghost use Rattle.wording.specs.Print.{Appended};
+ghost use Rattle.wording.specs.Replies.{hasValue, refusedText, numbersText, splitText, channelText, contentText, mapText, slotText, lineText, whoText, bitsText, reasonText, errorText};
 
 fn has_value(refusal: u32) -> bool
     ensures { λ r. ⌜ r ≡ hasValue refusal ⌝ }

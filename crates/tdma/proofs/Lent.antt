@@ -4,7 +4,7 @@ use mathlib.Core.Path.{_≡_, ap, _∙_}
 use mathlib.Core.List.{List}
 use Rattle.answers.specs.Refusals.{refusalIn}
 use Rattle.answers.specs.declared.Answer.{Answer}
-use Rattle.bursts.specs.Bursts.{Written, wrote}
+use Rattle.layouts.specs.Bursts.{Written, wrote}
 use Rattle.storage.specs.Words.{cellOf}
 use Rattle.rules.specs.Calls.{Step, changed}
 use Rattle.c_answers.specs.declared.TdmaAnswer.{TdmaAnswer}

@@ -2,7 +2,7 @@
 use Prim.Native.Nat.{ℕ}
 use mathlib.Core.Path.{_≡_}
 use mathlib.Core.List.{List}
-use Rattle.bursts.specs.Bursts.{Written}
+use Rattle.layouts.specs.Bursts.{Written}
 use Rattle.c_answers.specs.declared.TdmaAnswer.{TdmaAnswer}
 use Rattle.c_answers.specs.Numbers.{answerNumbers}
 

@@ -1,7 +1,7 @@
 // The bursts, one bit to a byte, in buffers that the caller lends.
 use c_answers::TdmaAnswer;
 use c_answers::answer_numbers;
-ghost use Rattle.bursts.specs.Bursts.{buildNormalOf, takeNormalOf, buildSynchronizationOf, takeSynchronizationOf, buildAccessOf, takeAccessOf, buildFrequencyCorrectionOf, buildDummyOf};
+ghost use Rattle.layouts.specs.Bursts.{buildNormalOf, takeNormalOf, buildSynchronizationOf, takeSynchronizationOf, buildAccessOf, takeAccessOf, buildFrequencyCorrectionOf, buildDummyOf};
 ghost use Rattle.tdma.specs.Buffers.{Wrote};
 
 // A normal burst with this training sequence code and payload.

@@ -7,17 +7,10 @@ use native.Mathlib.Nat.{pow-suc, pow-le-pow-right}
 use native.Mathlib.Omega.{arith}
 use lib.Dec.{leb}
 use lib.ListN.{length, take, replicate}
-use borrow.Author.Tests.{lt-ltb, le-ltb, leb-true, leb-false}
+use borrow.Author.Tests.{lt-ltb, leb-true, leb-false}
 use Rattle.io.specs.Digits.{digits, glyph, Fewest}
-use Rattle.text.specs.Print.{decimal, decimalWithin, left, right}
-
-pub one-digit : (f n : ℕ) → n < 10 → decimalWithin (suc f) n ≡ (48 + n) ∷ []
-unfolding decimalWithin
-one-digit f n h = ap (λ (t : Bool). cond t ((48 + n) ∷ []) (decimalWithin f (n / 10) ++ ((48 + n % 10) ∷ []))) (lt-ltb n 10 h)
-
-pub more-digits : (f n : ℕ) → 10 ≤ n → decimalWithin (suc f) n ≡ decimalWithin f (n / 10) ++ ((48 + n % 10) ∷ [])
-unfolding decimalWithin
-more-digits f n h = ap (λ (t : Bool). cond t ((48 + n) ∷ []) (decimalWithin f (n / 10) ++ ((48 + n % 10) ∷ []))) (le-ltb n 10 h)
+use Rattle.wording.specs.Print.{decimal, decimalWithin, left, right}
+use Rattle.wording.proofs.Digits.{one-digit, more-digits}
 
 last : (n : ℕ) → glyph (n % 10) ≡ 48 + n % 10
 last n = ap (λ (t : Bool). cond t (48 + n % 10) (87 + n % 10)) (lt-ltb (n % 10) 10 (omega arith))

@@ -10,20 +10,17 @@ use native.Mathlib.Omega.{arith}
 use lib.Dec.{eqb}
 use lib.ListN.{length, take, drop, getD, set, drop-of-length-le}
 use lib.Seq.{drop-cons, take-suc-set}
-use borrow.Author.Tests.{lt-ltb, le-ltb, eq-eqb, ne-eqb}
-use Rattle.text.specs.declared.numbers.Numeral.{Numeral}
-use Rattle.text.specs.declared.numbers.Numeral.the-variants.{Value, NotDigits, TooLarge}
-use Rattle.text.specs.Numbers.{isDigit, allDigits, isNumber, valueFrom, within, numberOf, Taken, took, wrong, withNumber, numbersAfter, numbersIn, onlyThese, listAfter}
+use borrow.Author.Tests.{le-ltb, eq-eqb, ne-eqb}
+use Rattle.wording.specs.declared.Numeral.{Numeral}
+use Rattle.wording.specs.declared.Numeral.the-variants.{Value, NotDigits, TooLarge}
+use Rattle.wording.specs.Numbers.{isDigit, allDigits, isNumber, valueFrom, within, numberOf, Taken, took, wrong, withNumber, numbersAfter, onlyThese, listAfter}
+use Rattle.wording.proofs.Digits.{some-digits}
 use Rattle.text.specs.declared.numbers.Values.{Values}
-use Rattle.text.specs.Words.{wordsOf}
+use Rattle.wording.specs.Words.{wordsOf}
+use Rattle.text.specs.Numbers.{numbersIn}
 use Rattle.text.specs.Helpers.{reasonOf}
 
 -- ---- digits
-
-pub some-digits : (w : List ℕ) → 0 < length w → isNumber w ≡ allDigits w
-unfolding isNumber
-some-digits [] h = absurd (omega (arith, h))
-some-digits (c ∷ w) h = refl
 
 digits-step : (c : ℕ) (w : List ℕ) (b : Bool) → isDigit c ≡ b → allDigits (c ∷ w) ≡ (b && allDigits w)
 unfolding allDigits
@@ -63,18 +60,10 @@ unfolding valueFrom
 value-grows [] n = le-refl n
 value-grows (c ∷ w) n = le-trans (omega arith) (value-grows w (10 * n + (c - 48)))
 
-pub is-value : (n m : ℕ) → m ≡ n → n < 2 ^ 64 → within m ≡ Value n
-unfolding within
-is-value n m e h = rw e (ap (λ (t : Bool). cond t (Value n) TooLarge) (lt-ltb n (2 ^ 64) h))
-
 pub is-too-large : (n m : ℕ) (w : List ℕ) → m ≡ valueFrom n w → 2 ^ 64 ≤ n → within m ≡ TooLarge
 unfolding within
 is-too-large n m w e h =
     ap (λ (t : Bool). cond t (Value m) TooLarge) (le-ltb m (2 ^ 64) (le-trans h (rw e (value-grows w n))))
-
-pub number-value : (w : List ℕ) → isNumber w ≡ true → numberOf w ≡ within (valueFrom 0 w)
-unfolding numberOf
-number-value w e = ap (λ (t : Bool). cond t (within (valueFrom 0 w)) NotDigits) e
 
 pub number-none : (w : List ℕ) → isNumber w ≡ false → numberOf w ≡ NotDigits
 unfolding numberOf

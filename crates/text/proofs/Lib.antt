@@ -2,4 +2,3 @@ pub mod Scan
 pub mod Digits
 pub mod Append
 pub mod Decimal
-pub mod ReadBack

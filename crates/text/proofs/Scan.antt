@@ -12,7 +12,8 @@ use lib.ListN.{length, take, drop, getD, drop-of-length-le, length-drop}
 use lib.Seq.{drop-cons, drop-drop, getD-drop}
 use borrow.Author.Tests.{eq-eqb, ne-eqb, eqb-true, eqb-false}
 use Rattle.answers.proofs.Tests.{and-false-right}
-use Rattle.text.specs.Words.{until, run, inWord, joined, wordsOf, sameText, between, Ahead}
+use Rattle.wording.specs.Words.{until, run, inWord, joined, wordsOf, sameText}
+use Rattle.text.specs.Words.{between, Ahead}
 use Rattle.text.specs.declared.words.Next.the-variants.{Word}
 
 -- ---- one byte more

@@ -3,11 +3,12 @@ use Prim.Native.Nat.{ℕ, _≤_, _<_}
 use mathlib.Core.Path.{_≡_}
 use mathlib.Core.List.{List, [], _∷_}
 use lib.ListN.{length, take, drop}
-use Rattle.text.specs.Words.{wordsOf}
+use Rattle.wording.specs.Words.{wordsOf}
 use Rattle.text.specs.declared.numbers.Listed.{Listed}
-use Rattle.text.specs.Numbers.{numberOf, listIn, listAfter}
-use Rattle.text.specs.declared.numbers.Numeral.{Numeral}
-use Rattle.text.specs.declared.numbers.Numeral.the-variants.{Value, NotDigits, TooLarge}
+use Rattle.wording.specs.Numbers.{numberOf, listAfter}
+use Rattle.text.specs.Numbers.{listIn}
+use Rattle.wording.specs.declared.Numeral.{Numeral}
+use Rattle.wording.specs.declared.Numeral.the-variants.{Value, NotDigits, TooLarge}
 use Rattle.text.specs.declared.numbers.Took.{Took}
 use Rattle.text.specs.declared.numbers.Took.the-variants.{Number, End, Wrong}
 

@@ -2,12 +2,14 @@
 use crate::least;
 use crate::words::Next;
 use crate::words::next_word;
+use wording::Numeral;
 ghost use Prim.Native.Nat.{_-_, _^_, _≤_, min};
 ghost use mathlib.Core.Path.{_≡_};
 ghost use mathlib.Core.List.{map};
 ghost use lib.ListN.{length, take, drop};
-ghost use Rattle.text.specs.Words.{wordsOf};
-ghost use Rattle.text.specs.Numbers.{isDigit, isNumber, valueFrom, within, numberOf, numbersOf, onlyOf, numbersIn, listOf, listIn, figure};
+ghost use Rattle.wording.specs.Words.{wordsOf};
+ghost use Rattle.wording.specs.Numbers.{isDigit, isNumber, valueFrom, within, numberOf, numbersOf, onlyOf, listOf, figure};
+ghost use Rattle.text.specs.Numbers.{numbersIn, listIn};
 ghost use Rattle.text.specs.Helpers.{Ahead-number, Ends};
 
 // Why a line is no command, by number.
@@ -26,14 +28,6 @@ pub const TOO_LARGE: u32 = 6;
 pub const COUNT_TOO_LARGE: u32 = 7;
 
 pub const LINE_TOO_LONG: u32 = 8;
-
-pub enum Numeral {
-    Value(u64),
-    // Some character is no digit, or there is none.
-    NotDigits,
-    // Above 2^64 - 1.
-    TooLarge,
-}
 
 fn is_digit(c: u8) -> bool
     ensures { λ r. ⌜ r ≡ isDigit c ⌝ }

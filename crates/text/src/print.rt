@@ -4,7 +4,7 @@ ghost use Prim.Native.Nat.{_-_};
 ghost use mathlib.Core.Path.{_≡_};
 ghost use mathlib.Core.List.{map};
 ghost use lib.ListN.{replicate};
-ghost use Rattle.text.specs.Print.{Appended, decimal, right, left, spaced, bitCharacter};
+ghost use Rattle.wording.specs.Print.{Appended, decimal, right, left, spaced, bitCharacter};
 
 pub fn put(out: &mut [u8], at: usize, text: &[u8]) -> usize
     ensures { λ r. ⌜ Appended (now (out .entry)) at (now (out .exit)) r (now (text .entry)) ⌝ }

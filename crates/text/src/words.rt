@@ -2,7 +2,8 @@
 ghost use Prim.Native.Nat.{_+_};
 ghost use mathlib.Core.Path.{_≡_};
 ghost use lib.ListN.{length, drop};
-ghost use Rattle.text.specs.Words.{until, run, Ahead, sameText};
+ghost use Rattle.wording.specs.Words.{until, run, sameText};
+ghost use Rattle.text.specs.Words.{Ahead};
 
 // The first place at or after `from` that has this byte, or the end.
 pub fn find(text: &[u8], from: usize, byte: u8) -> usize

@@ -4,11 +4,11 @@ use mathlib.Core.Path.{_≡_, _∙_}
 use mathlib.Core.List.{_++_}
 use mathlib.Core.Logic.{_≢_}
 use borrow.Author.Tests.{eq-eqb, ne-eqb, lt-ltb, le-ltb}
-use Rattle.text.specs.Words.{ascii}
-use Rattle.text.specs.Print.{decimal, right}
+use Rattle.wording.specs.Words.{ascii}
+use Rattle.wording.specs.Print.{decimal, right}
 use Rattle.c_answers.specs.declared.TdmaLine.{TdmaLine}
 use Rattle.replies.proofs.Choices.{first, second}
-use Rattle.timetable.specs.Table.{directionText, holderText, blockText, shownText, cellText}
+use Rattle.wording.specs.Table.{directionText, holderText, blockText, shownText, cellText}
 
 pub downlink : (d : ℕ) → d ≡ 0 → directionText d ≡ ascii " downlink, "
 unfolding directionText

@@ -4,9 +4,9 @@ use text::print::put;
 use text::print::put_left;
 use text::print::put_number;
 use text::print::put_right;
-ghost use Rattle.text.specs.Print.{Appended, left};
-ghost use Rattle.replies.specs.Replies.{channelText};
-ghost use Rattle.timetable.specs.Table.{directionText, headText, titleText, frameText, holderText, blockText, cellText};
+ghost use Rattle.wording.specs.Print.{Appended, left};
+ghost use Rattle.wording.specs.Replies.{channelText};
+ghost use Rattle.wording.specs.Table.{directionText, headText, titleText, frameText, holderText, blockText, cellText};
 
 // What is shown; the open lines' numbers follow.
 pub fn head(out: &mut [u8], at: usize, tn: u32, direction: u32, count: u32, frame: u32) -> usize

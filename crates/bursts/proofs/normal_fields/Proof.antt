@@ -6,10 +6,10 @@ use mathlib.Core.Option.{some}
 use borrow.Author.Needs.{needs}
 use lib.ListN.{getD}
 use Rattle.bursts.specs.declared.fields.Field.the-variants.{Fixed, Room}
-use Rattle.bursts.specs.Layouts.{bits, codes, normal}
-use Rattle.bursts.specs.Rows.{rowOf}
+use Rattle.layouts.specs.Layouts.{bits, codes, normal}
+use Rattle.layouts.specs.Rows.{rowOf}
 use Rattle.bursts.specs.Helpers.{fieldRow, fieldsRow}
-use Rattle.bursts.proofs.Bits.{bits-high}
+use Rattle.layouts.proofs.Bits.{bits-high}
 use Rattle.bursts.proofs.normal_fields.Statement.{statement}
 use Rattle.bursts.proofs.normal_fields.Tie as tie
 

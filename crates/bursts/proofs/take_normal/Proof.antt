@@ -2,10 +2,10 @@
 use mathlib.Core.Path.{sym, ap, _∙_}
 use borrow.Author.Needs.{needs}
 use lib.ListN.{length}
-use Rattle.bursts.specs.Rows.{Row, room}
-use Rattle.bursts.specs.Bursts.{takeOf}
-use Rattle.bursts.proofs.NormalCalls.{take-normal-refuses, take-normal-is}
-use Rattle.bursts.proofs.Sizes.{all-sizes}
+use Rattle.layouts.specs.Rows.{Row, room}
+use Rattle.layouts.specs.Bursts.{takeOf}
+use Rattle.layouts.proofs.NormalCalls.{take-normal-refuses, take-normal-is}
+use Rattle.layouts.proofs.Sizes.{all-sizes}
 use Rattle.bursts.proofs.take_normal.Statement.{statement}
 use Rattle.bursts.proofs.take_normal.Tie as tie
 

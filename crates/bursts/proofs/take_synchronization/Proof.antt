@@ -1,8 +1,8 @@
 -- `take_synchronization` meets its contract: its fields have the row of clause 5.2's. Assumes nothing.
 use mathlib.Core.Path.{refl}
 use borrow.Author.Needs.{needs}
-use Rattle.bursts.specs.Layouts.{bits, synchronization}
-use Rattle.bursts.specs.Rows.{rowOf, room}
+use Rattle.layouts.specs.Layouts.{bits, synchronization}
+use Rattle.layouts.specs.Rows.{rowOf, room}
 use Rattle.bursts.specs.Helpers.{fieldRow, fieldsRow}
 use Rattle.bursts.proofs.take_synchronization.Statement.{statement}
 use Rattle.bursts.proofs.take_synchronization.Tie as tie

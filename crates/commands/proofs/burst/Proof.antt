@@ -1,7 +1,7 @@
 -- `burst` meets its contract: the names before are missed, and this one is hit. Assumes nothing.
 use mathlib.Core.Path.{sym, _∙_}
 use borrow.Author.Needs.{needs}
-use Rattle.commands.specs.Names.{burstOf}
+use Rattle.wording.specs.Names.{burstOf}
 use Rattle.commands.proofs.Among.{hit, miss, missed}
 use Rattle.commands.proofs.burst.Statement.{statement}
 use Rattle.commands.proofs.burst.Tie as tie

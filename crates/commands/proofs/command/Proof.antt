@@ -1,7 +1,7 @@
 -- `command` meets its contract: the names before are missed, and this one is hit. Assumes nothing.
 use mathlib.Core.Path.{sym, _∙_}
 use borrow.Author.Needs.{needs}
-use Rattle.commands.specs.Names.{commandOf}
+use Rattle.wording.specs.Names.{commandOf}
 use Rattle.commands.proofs.Among.{hit, miss}
 use Rattle.commands.proofs.command.Statement.{statement}
 use Rattle.commands.proofs.command.Tie as tie

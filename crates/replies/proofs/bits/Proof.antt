@@ -1,9 +1,9 @@
 -- `bits` meets its contract. Assumes nothing.
 use mathlib.Core.Path.{sym}
 use borrow.Author.Needs.{needs}
-use Rattle.text.proofs.Append.{and-then, by-text}
+use Rattle.wording.proofs.Written.{and-then, by-text}
 use Rattle.replies.proofs.Texts.{is-refused, is-answered}
-use Rattle.replies.specs.Replies.{bitsText}
+use Rattle.wording.specs.Replies.{bitsText}
 use Rattle.replies.proofs.bits.Statement.{statement}
 use Rattle.replies.proofs.bits.Tie as tie
 

@@ -1,8 +1,8 @@
 -- `channel` meets its contract: each name by its number. Assumes nothing.
 use mathlib.Core.Path.{sym, ap}
 use borrow.Author.Needs.{needs}
-use Rattle.text.proofs.Append.{by-text}
-use Rattle.replies.specs.Replies.{channelText}
+use Rattle.wording.proofs.Written.{by-text}
+use Rattle.wording.specs.Replies.{channelText}
 use Rattle.replies.proofs.Choices.{other}
 use Rattle.replies.proofs.Texts.{no-channel}
 use Rattle.replies.proofs.channel.Statement.{statement}

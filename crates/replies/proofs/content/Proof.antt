@@ -1,7 +1,7 @@
 -- `content` meets its contract. Assumes nothing.
 use mathlib.Core.Path.{sym}
 use borrow.Author.Needs.{needs}
-use Rattle.text.proofs.Append.{and-then, by-text}
+use Rattle.wording.proofs.Written.{and-then, by-text}
 use Rattle.replies.proofs.Texts.{idle-content, one-block, two-blocks}
 use Rattle.replies.proofs.content.Statement.{statement}
 use Rattle.replies.proofs.content.Tie as tie

@@ -1,7 +1,7 @@
 -- `error` meets its contract: its parts in a row. Assumes nothing.
 use borrow.Author.Needs.{needs}
-use Rattle.text.proofs.Append.{and-then}
-use Rattle.replies.specs.Replies.{errorText}
+use Rattle.wording.proofs.Written.{and-then}
+use Rattle.wording.specs.Replies.{errorText}
 use Rattle.replies.proofs.error.Statement.{statement}
 use Rattle.replies.proofs.error.Tie as tie
 

@@ -1,7 +1,7 @@
 -- `line` meets its contract. Assumes nothing.
 use mathlib.Core.Path.{sym}
 use borrow.Author.Needs.{needs}
-use Rattle.text.proofs.Append.{and-then, by-text}
+use Rattle.wording.proofs.Written.{and-then, by-text}
 use Rattle.replies.proofs.Texts.{line-refused, line-answered}
 use Rattle.replies.proofs.line.Statement.{statement}
 use Rattle.replies.proofs.line.Tie as tie

@@ -1,9 +1,9 @@
 -- `map` meets its contract. Assumes nothing.
 use mathlib.Core.Path.{sym}
 use borrow.Author.Needs.{needs}
-use Rattle.text.proofs.Append.{and-then, by-text}
+use Rattle.wording.proofs.Written.{and-then, by-text}
 use Rattle.replies.proofs.Texts.{is-refused, is-answered}
-use Rattle.replies.specs.Replies.{mapText}
+use Rattle.wording.specs.Replies.{mapText}
 use Rattle.replies.proofs.map.Statement.{statement}
 use Rattle.replies.proofs.map.Tie as tie
 

@@ -1,9 +1,9 @@
 -- `numbers` meets its contract. Assumes nothing.
 use mathlib.Core.Path.{sym}
 use borrow.Author.Needs.{needs}
-use Rattle.text.proofs.Append.{and-then, by-text}
+use Rattle.wording.proofs.Written.{and-then, by-text}
 use Rattle.replies.proofs.Texts.{is-refused, is-answered}
-use Rattle.replies.specs.Replies.{numbersText}
+use Rattle.wording.specs.Replies.{numbersText}
 use Rattle.replies.proofs.numbers.Statement.{statement}
 use Rattle.replies.proofs.numbers.Tie as tie
 

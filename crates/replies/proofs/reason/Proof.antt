@@ -1,8 +1,8 @@
 -- `reason` meets its contract: each name by its number. Assumes nothing.
 use mathlib.Core.Path.{sym, ap}
 use borrow.Author.Needs.{needs}
-use Rattle.text.proofs.Append.{by-text}
-use Rattle.replies.specs.Replies.{reasonText}
+use Rattle.wording.proofs.Written.{by-text}
+use Rattle.wording.specs.Replies.{reasonText}
 use Rattle.replies.proofs.Choices.{other}
 use Rattle.replies.proofs.Texts.{no-reason}
 use Rattle.replies.proofs.reason.Statement.{statement}

@@ -1,7 +1,7 @@
 -- `refused` meets its contract: the value comes with 9 and 15. Assumes nothing.
 use mathlib.Core.Path.{sym, _∙_}
 use borrow.Author.Needs.{needs}
-use Rattle.text.proofs.Append.{and-then, by-text}
+use Rattle.wording.proofs.Written.{and-then, by-text}
 use Rattle.replies.proofs.Texts.{with-value, without-value}
 use Rattle.replies.proofs.refused.Statement.{statement}
 use Rattle.replies.proofs.refused.Tie as tie

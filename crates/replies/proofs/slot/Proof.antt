@@ -1,7 +1,7 @@
 -- `slot` meets its contract: its parts in a row. Assumes nothing.
 use borrow.Author.Needs.{needs}
-use Rattle.text.proofs.Append.{and-then}
-use Rattle.replies.specs.Replies.{slotText}
+use Rattle.wording.proofs.Written.{and-then}
+use Rattle.wording.specs.Replies.{slotText}
 use Rattle.replies.proofs.slot.Statement.{statement}
 use Rattle.replies.proofs.slot.Tie as tie
 

@@ -1,7 +1,7 @@
 -- `split` meets its contract: T3' is written where it is given. Assumes nothing.
 use mathlib.Core.Path.{sym}
 use borrow.Author.Needs.{needs}
-use Rattle.text.proofs.Append.{and-then, by-text}
+use Rattle.wording.proofs.Written.{and-then, by-text}
 use Rattle.replies.proofs.Texts.{split-refused, split-without, split-with}
 use Rattle.replies.proofs.split.Statement.{statement}
 use Rattle.replies.proofs.split.Tie as tie

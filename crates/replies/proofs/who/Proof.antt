@@ -1,7 +1,7 @@
 -- `who` meets its contract. Assumes nothing.
 use mathlib.Core.Path.{sym}
 use borrow.Author.Needs.{needs}
-use Rattle.text.proofs.Append.{and-then, by-text}
+use Rattle.wording.proofs.Written.{and-then, by-text}
 use Rattle.replies.proofs.Texts.{who-refused, who-nobody, who-found}
 use Rattle.replies.proofs.who.Statement.{statement}
 use Rattle.replies.proofs.who.Tie as tie

@@ -1,7 +1,7 @@
 -- `block` meets its contract: its parts in a row. Assumes nothing.
 use borrow.Author.Needs.{needs}
-use Rattle.text.proofs.Append.{and-then}
-use Rattle.timetable.specs.Table.{blockText}
+use Rattle.wording.proofs.Written.{and-then}
+use Rattle.wording.specs.Table.{blockText}
 use Rattle.timetable.proofs.block.Statement.{statement}
 use Rattle.timetable.proofs.block.Tie as tie
 

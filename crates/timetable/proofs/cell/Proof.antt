@@ -1,7 +1,7 @@
 -- `cell` meets its contract: its parts in a row. Assumes nothing.
 use mathlib.Core.Path.{sym}
 use borrow.Author.Needs.{needs}
-use Rattle.text.proofs.Append.{and-then, by-text}
+use Rattle.wording.proofs.Written.{and-then, by-text}
 use Rattle.timetable.proofs.Texts.{idle-cell, cell-one-block, cell-two-blocks}
 use Rattle.timetable.proofs.cell.Statement.{statement}
 use Rattle.timetable.proofs.cell.Tie as tie

@@ -1,7 +1,7 @@
 -- `direction_name` meets its contract. Assumes nothing.
 use mathlib.Core.Path.{sym}
 use borrow.Author.Needs.{needs}
-use Rattle.text.proofs.Append.{by-text}
+use Rattle.wording.proofs.Written.{by-text}
 use Rattle.timetable.proofs.Texts.{downlink, uplink}
 use Rattle.timetable.proofs.direction_name.Statement.{statement}
 use Rattle.timetable.proofs.direction_name.Tie as tie

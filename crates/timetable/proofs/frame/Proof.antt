@@ -1,7 +1,7 @@
 -- `frame` meets its contract: its parts in a row. Assumes nothing.
 use borrow.Author.Needs.{needs}
-use Rattle.text.proofs.Append.{and-then}
-use Rattle.timetable.specs.Table.{frameText}
+use Rattle.wording.proofs.Written.{and-then}
+use Rattle.wording.specs.Table.{frameText}
 use Rattle.timetable.proofs.frame.Statement.{statement}
 use Rattle.timetable.proofs.frame.Tie as tie
 

@@ -1,7 +1,7 @@
 -- `head` meets its contract: its parts in a row. Assumes nothing.
 use borrow.Author.Needs.{needs}
-use Rattle.text.proofs.Append.{and-then}
-use Rattle.timetable.specs.Table.{headText}
+use Rattle.wording.proofs.Written.{and-then}
+use Rattle.wording.specs.Table.{headText}
 use Rattle.timetable.proofs.head.Statement.{statement}
 use Rattle.timetable.proofs.head.Tie as tie
 

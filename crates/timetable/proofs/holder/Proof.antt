@@ -1,7 +1,7 @@
 -- `holder` meets its contract. Assumes nothing.
 use mathlib.Core.Path.{sym}
 use borrow.Author.Needs.{needs}
-use Rattle.text.proofs.Append.{and-then, by-text}
+use Rattle.wording.proofs.Written.{and-then, by-text}
 use Rattle.timetable.proofs.Texts.{common-part, free, held}
 use Rattle.timetable.proofs.holder.Statement.{statement}
 use Rattle.timetable.proofs.holder.Tie as tie

@@ -2,9 +2,9 @@
 use Prim.Native.Nat.{ℕ}
 use mathlib.Core.Path.{sym, ap}
 use borrow.Author.Needs.{needs}
-use Rattle.text.proofs.Append.{by-text}
-use Rattle.text.specs.Print.{left}
-use Rattle.replies.specs.Replies.{channelText}
+use Rattle.wording.proofs.Written.{by-text}
+use Rattle.wording.specs.Print.{left}
+use Rattle.wording.specs.Replies.{channelText}
 use Rattle.replies.proofs.Choices.{other}
 use Rattle.replies.proofs.Texts.{no-channel}
 use Rattle.timetable.proofs.kind.Statement.{statement}

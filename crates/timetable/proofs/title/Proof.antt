@@ -1,7 +1,7 @@
 -- `title` meets its contract: its parts in a row. Assumes nothing.
 use borrow.Author.Needs.{needs}
-use Rattle.text.proofs.Append.{and-then}
-use Rattle.timetable.specs.Table.{titleText}
+use Rattle.wording.proofs.Written.{and-then}
+use Rattle.wording.specs.Table.{titleText}
 use Rattle.timetable.proofs.title.Statement.{statement}
 use Rattle.timetable.proofs.title.Tie as tie
 

@@ -9,7 +9,7 @@ use lib.Dec.{ltb}
 use lib.ListN.{length, getD}
 use borrow.Author.Needs.{needs}
 use Rattle.answers.specs.Search.{anyBelow}
-use Rattle.bursts.specs.Bursts.{byteAboveOne}
+use Rattle.layouts.specs.Bursts.{byteAboveOne}
 use Rattle.bursts.proofs.fields.byte_above_one.Statement.{statement}
 use Rattle.bursts.proofs.fields.byte_above_one.Tie as tie
 

@@ -5,8 +5,8 @@ use native.Mathlib.Omega.{arith}
 use lib.ListN.{length}
 use borrow.Author.Count.{below-none, below-more}
 use borrow.Author.Needs.{needs}
-use Rattle.bursts.specs.Layouts.{bits}
-use Rattle.bursts.proofs.Bits.{length-bits, bit-at}
+use Rattle.layouts.specs.Layouts.{bits}
+use Rattle.layouts.proofs.Bits.{length-bits, bit-at}
 use Rattle.bursts.proofs.FieldRows.{AgreeBelow, wrong-at, all-agree}
 use Rattle.bursts.proofs.fields.first_other.Statement.{statement}
 use Rattle.bursts.proofs.fields.first_other.Tie as tie

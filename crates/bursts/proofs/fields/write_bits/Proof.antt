@@ -9,8 +9,8 @@ use lib.ListN.{length, drop, getD, set, length-set, drop-of-length-le}
 use lib.Pow.{shr-shr}
 use lib.Seq.{drop-cons, drop-set-lt, getD-set-same}
 use borrow.Author.Needs.{needs}
-use Rattle.bursts.specs.Layouts.{bits}
-use Rattle.bursts.proofs.Bits.{length-bits, bit-at}
+use Rattle.layouts.specs.Layouts.{bits}
+use Rattle.layouts.proofs.Bits.{length-bits, bit-at}
 use Rattle.bursts.proofs.fields.write_bits.Statement.{statement}
 use Rattle.bursts.proofs.fields.write_bits.Tie as tie
 

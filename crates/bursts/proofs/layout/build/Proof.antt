@@ -6,10 +6,10 @@ use mathlib.Core.List.{List}
 use borrow.Author.Needs.{needs}
 use borrow.Author.Tests.{ne-eqb}
 use lib.ListN.{length, take}
-use Rattle.bursts.specs.Rows.{Row, built}
-use Rattle.bursts.specs.Claims.{done}
+use Rattle.layouts.specs.Rows.{Row, built}
+use Rattle.layouts.specs.Claims.{done}
 use Rattle.bursts.proofs.Calls.{build-refuses, build-accepts}
-use Rattle.bursts.proofs.Undo.{length-built}
+use Rattle.layouts.proofs.Undo.{length-built}
 use Rattle.bursts.proofs.layout.build.Statement.{statement}
 use Rattle.bursts.proofs.layout.build.Tie as tie
 

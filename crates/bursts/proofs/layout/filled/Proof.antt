@@ -7,11 +7,11 @@ use native.Mathlib.Omega.{arith}
 use borrow.Author.Needs.{needs}
 use lib.ListN.{length, take, drop, getD}
 use Rattle.bursts.specs.declared.fields.Field.{Field}
-use Rattle.bursts.specs.Rows.{room, built}
+use Rattle.layouts.specs.Rows.{room, built}
 use Rattle.bursts.specs.Helpers.{width, fieldRow, fieldsRow}
 use Rattle.bursts.proofs.FieldRows.{length-field}
 use Rattle.bursts.proofs.Turns.{rowFrom, past, bits-left, room-left, last-end, none-built, part-length, part-kept, part-written, built-from, all-written}
-use Rattle.bursts.proofs.Undo.{length-built}
+use Rattle.layouts.proofs.Undo.{length-built}
 use Rattle.bursts.proofs.layout.filled.Statement.{statement}
 use Rattle.bursts.proofs.layout.filled.Tie as tie
 

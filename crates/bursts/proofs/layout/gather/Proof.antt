@@ -8,11 +8,11 @@ use borrow.Author.Needs.{needs}
 use lib.ListN.{length, take, drop, getD}
 use lib.Seq.{take-length}
 use Rattle.bursts.specs.declared.fields.Field.{Field}
-use Rattle.bursts.specs.Rows.{room, taken}
+use Rattle.layouts.specs.Rows.{room, taken}
 use Rattle.bursts.specs.Helpers.{payloadOf, fieldRow, fieldsRow}
 use Rattle.bursts.proofs.FieldRows.{room-field}
 use Rattle.bursts.proofs.Turns.{rowFrom, past, bits-left, room-left, last-room, none-taken, part-length, part-kept, part-written, taken-from, all-written}
-use Rattle.bursts.proofs.Undo.{length-taken}
+use Rattle.layouts.proofs.Undo.{length-taken}
 use Rattle.bursts.proofs.layout.gather.Statement.{statement}
 use Rattle.bursts.proofs.layout.gather.Tie as tie
 

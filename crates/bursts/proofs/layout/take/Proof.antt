@@ -5,7 +5,7 @@ use mathlib.Core.Bool.{not}
 use native.Mathlib.Omega.{arith}
 use borrow.Author.Needs.{needs}
 use borrow.Author.Tests.{ne-eqb}
-use Rattle.bursts.specs.Claims.{done}
+use Rattle.layouts.specs.Claims.{done}
 use Rattle.bursts.proofs.Calls.{take-refuses, take-tells, take-accepts}
 use Rattle.bursts.proofs.layout.take.Statement.{statement}
 use Rattle.bursts.proofs.layout.take.Tie as tie

@@ -5,7 +5,7 @@ use mathlib.Core.List.{List, []}
 use native.Mathlib.Omega.{arith}
 use borrow.Author.Needs.{needs}
 use Rattle.text.specs.Words.{Ahead}
-use Rattle.text.specs.Numbers.{took}
+use Rattle.wording.specs.Numbers.{took}
 use Rattle.text.proofs.Digits.{list-done, list-full}
 use Rattle.text.proofs.numbers.ends.Statement.{statement}
 use Rattle.text.proofs.numbers.ends.Tie as tie

@@ -5,7 +5,7 @@ use mathlib.Core.List.{map}
 use native.Mathlib.Omega.{arith}
 use lib.ListN.{length, take, length-set, length-map}
 use borrow.Author.Needs.{needs}
-use Rattle.text.specs.Numbers.{figure}
+use Rattle.wording.specs.Numbers.{figure}
 use Rattle.answers.proofs.Front.{front-more}
 use Rattle.text.proofs.Append.{map-at}
 use Rattle.text.proofs.numbers.figures.Statement.{statement}

@@ -4,7 +4,7 @@ use mathlib.Core.Path.{_≡_, sym, _∙_}
 use lib.ListN.{length, drop}
 use borrow.Author.Needs.{needs}
 use borrow.Author.Tests.{not-true, not-false}
-use Rattle.text.specs.Numbers.{allDigits, isNumber}
+use Rattle.wording.specs.Numbers.{allDigits, isNumber}
 use Rattle.text.proofs.Digits.{none, first-digits, digits-more, digits-stop, digits-end}
 use Rattle.text.proofs.numbers.is_number.Statement.{statement}
 use Rattle.text.proofs.numbers.is_number.Tie as tie

@@ -6,8 +6,8 @@ use native.Mathlib.Nat.{sub-zero}
 use native.Mathlib.Omega.{arith}
 use lib.ListN.{length, take, drop, length-set}
 use borrow.Author.Needs.{needs}
-use Rattle.text.specs.Words.{wordsOf}
-use Rattle.text.specs.Numbers.{listAfter}
+use Rattle.wording.specs.Words.{wordsOf}
+use Rattle.wording.specs.Numbers.{listAfter}
 use Rattle.text.specs.Helpers.{Ahead-number}
 use Rattle.text.proofs.Digits.{entry-more, entry-none, entry-wrong, entry-last, wrong-list}
 use Rattle.text.proofs.numbers.list.Statement.{statement}

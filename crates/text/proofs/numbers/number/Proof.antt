@@ -2,7 +2,8 @@
 use mathlib.Core.Path.{sym, _∙_}
 use borrow.Author.Needs.{needs}
 use borrow.Author.Tests.{not-true, not-false}
-use Rattle.text.proofs.Digits.{number-value, number-none}
+use Rattle.wording.proofs.Digits.{number-value}
+use Rattle.text.proofs.Digits.{number-none}
 use Rattle.text.proofs.numbers.number.Statement.{statement}
 use Rattle.text.proofs.numbers.number.Tie as tie
 

@@ -7,8 +7,8 @@ use native.Mathlib.Nat.{sub-zero}
 use native.Mathlib.Omega.{arith}
 use lib.ListN.{length, take, drop, length-set}
 use borrow.Author.Needs.{needs}
-use Rattle.text.specs.Words.{wordsOf}
-use Rattle.text.specs.Numbers.{numbersAfter}
+use Rattle.wording.specs.Words.{wordsOf}
+use Rattle.wording.specs.Numbers.{numbersAfter}
 use Rattle.text.specs.Helpers.{Ahead-number}
 use Rattle.text.proofs.Digits.{row-more, row-few, row-wrong, row-end, wrong-in}
 use Rattle.text.proofs.numbers.numbers.Statement.{statement}

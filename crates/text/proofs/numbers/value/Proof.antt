@@ -4,8 +4,9 @@ use mathlib.Core.Path.{_≡_, refl, sym, ap, _∙_}
 use native.Mathlib.Omega.{arith}
 use lib.ListN.{length, drop}
 use borrow.Author.Needs.{needs}
-use Rattle.text.specs.Numbers.{valueFrom}
-use Rattle.text.proofs.Digits.{value-more, value-end, is-value, is-too-large}
+use Rattle.wording.specs.Numbers.{valueFrom}
+use Rattle.text.proofs.Digits.{value-more, value-end, is-too-large}
+use Rattle.wording.proofs.Digits.{is-value}
 use Rattle.text.proofs.numbers.value.Statement.{statement}
 use Rattle.text.proofs.numbers.value.Tie as tie
 

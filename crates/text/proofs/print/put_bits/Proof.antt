@@ -5,7 +5,7 @@ use mathlib.Core.List.{_++_, map}
 use native.Mathlib.Omega.{arith}
 use lib.ListN.{length, take, length-set, length-map}
 use borrow.Author.Needs.{needs}
-use Rattle.text.specs.Print.{bitCharacter}
+use Rattle.wording.specs.Print.{bitCharacter}
 use Rattle.text.proofs.Append.{put-first, put-more, put-all, map-at}
 use Rattle.text.proofs.print.put_bits.Statement.{statement}
 use Rattle.text.proofs.print.put_bits.Tie as tie

@@ -1,8 +1,8 @@
 -- `print::put_left` meets its contract: the digits, and then spaces. Assumes nothing.
 use Prim.Native.Nat.{_-_}
 use borrow.Author.Needs.{needs}
-use Rattle.text.specs.Print.{decimal}
-use Rattle.text.proofs.Append.{and-then, by-text}
+use Rattle.wording.specs.Print.{decimal}
+use Rattle.wording.proofs.Written.{and-then, by-text}
 use Rattle.text.proofs.Decimal.{decimal-in, on-left}
 use Rattle.text.proofs.print.put_left.Statement.{statement}
 use Rattle.text.proofs.print.put_left.Tie as tie

@@ -1,6 +1,6 @@
 -- `print::put_number` meets its contract. Assumes nothing.
 use borrow.Author.Needs.{needs}
-use Rattle.text.proofs.Append.{by-text}
+use Rattle.wording.proofs.Written.{by-text}
 use Rattle.text.proofs.Decimal.{decimal-in}
 use Rattle.text.proofs.print.put_number.Statement.{statement}
 use Rattle.text.proofs.print.put_number.Tie as tie

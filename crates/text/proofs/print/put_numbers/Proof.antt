@@ -2,8 +2,9 @@
 use Prim.Native.Nat.{_-_, _≤_}
 use lib.ListN.{length, take}
 use borrow.Author.Needs.{needs}
-use Rattle.text.specs.Print.{Appended, spaced}
-use Rattle.text.proofs.Append.{and-then, by-text, appended-nothing, spaced-more, spaced-all}
+use Rattle.wording.specs.Print.{Appended, spaced}
+use Rattle.wording.proofs.Written.{and-then, by-text}
+use Rattle.text.proofs.Append.{appended-nothing, spaced-more, spaced-all}
 use Rattle.text.proofs.print.put_numbers.Statement.{statement}
 use Rattle.text.proofs.print.put_numbers.Tie as tie
 

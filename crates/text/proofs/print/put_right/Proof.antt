@@ -1,8 +1,8 @@
 -- `print::put_right` meets its contract: spaces, and then the digits. Assumes nothing.
 use Prim.Native.Nat.{_-_}
 use borrow.Author.Needs.{needs}
-use Rattle.text.specs.Print.{decimal}
-use Rattle.text.proofs.Append.{and-then, by-text}
+use Rattle.wording.specs.Print.{decimal}
+use Rattle.wording.proofs.Written.{and-then, by-text}
 use Rattle.text.proofs.Decimal.{decimal-in, on-right}
 use Rattle.text.proofs.print.put_right.Statement.{statement}
 use Rattle.text.proofs.print.put_right.Tie as tie

@@ -3,7 +3,7 @@ use Prim.Native.Nat.{_+_, _-_}
 use mathlib.Core.Path.{_≡_, refl, sym, _∙_}
 use lib.ListN.{length, drop}
 use borrow.Author.Needs.{needs}
-use Rattle.text.specs.Words.{until}
+use Rattle.wording.specs.Words.{until}
 use Rattle.text.proofs.Scan.{until-more, until-here, until-end}
 use Rattle.text.proofs.words.find.Statement.{statement}
 use Rattle.text.proofs.words.find.Tie as tie

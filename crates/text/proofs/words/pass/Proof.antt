@@ -3,7 +3,7 @@ use Prim.Native.Nat.{_+_, _-_}
 use mathlib.Core.Path.{_≡_, refl, sym, _∙_}
 use lib.ListN.{length, drop}
 use borrow.Author.Needs.{needs}
-use Rattle.text.specs.Words.{run}
+use Rattle.wording.specs.Words.{run}
 use Rattle.text.proofs.Scan.{run-more, run-here, run-end}
 use Rattle.text.proofs.words.pass.Statement.{statement}
 use Rattle.text.proofs.words.pass.Tie as tie

@@ -3,7 +3,7 @@ use Prim.Native.Nat.{_-_}
 use mathlib.Core.Path.{_≡_, refl, sym, _∙_}
 use lib.ListN.{length, drop}
 use borrow.Author.Needs.{needs}
-use Rattle.text.specs.Words.{sameText}
+use Rattle.wording.specs.Words.{sameText}
 use Rattle.text.proofs.Scan.{other-length, same-more, other-here, same-end}
 use Rattle.text.proofs.words.same.Statement.{statement}
 use Rattle.text.proofs.words.same.Tie as tie

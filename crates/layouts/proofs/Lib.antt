@@ -1,0 +1,11 @@
+pub mod Accepted
+pub mod Bits
+pub mod Causes
+pub mod FixedBits
+pub mod NormalCalls
+pub mod Places
+pub mod Printed
+pub mod Sizes
+pub mod Undo
+pub mod WellFormed
+pub mod Examples
