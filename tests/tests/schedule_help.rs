@@ -1,5 +1,5 @@
-//! What `schedule --help` prints: every command, with the operands that the second implementation
-//! reads.
+//! What `schedule --help` prints and docs/SCHEDULE.md says: every command, with the operands that
+//! the second implementation reads.
 
 use std::collections::BTreeSet;
 use std::ffi::OsStr;
@@ -8,6 +8,9 @@ use std::io::Seek;
 use std::process::Output;
 use tdma_tests::command::{read, Fault, NAMES};
 use tdma_tests::program::{output, program, Scratch};
+use tdma_tests::schedule::run;
+
+const FORMAT: &str = include_str!("../../docs/SCHEDULE.md");
 
 /// The widest line that has room on a terminal.
 const COLUMNS: usize = 80;
@@ -29,6 +32,22 @@ fn rows(text: &str, heading: &str) -> Vec<String> {
         _ => line.trim().into(),
     })
     .collect()
+}
+
+/// The first column of the tables in a section of the format, without the backticks.
+fn format_rows(section: &str) -> Vec<&'static str> {
+    let text = FORMAT.split(section).nth(1).expect("the section");
+    let text = text.split("\n## ").next().unwrap_or_default();
+    let rows = text.lines().filter_map(|line| line.strip_prefix("| `"));
+    rows.filter_map(|row| row.split('`').next()).collect()
+}
+
+/// The lines of the format that are set as text behind a line.
+fn format_text(behind: &str) -> String {
+    let text = FORMAT.split(behind).nth(1).expect("the line");
+    let lines = text.lines().skip_while(|line| line.is_empty());
+    let lines = lines.map_while(|line| line.strip_prefix("    "));
+    lines.map(|line| format!("{line}\n")).collect()
 }
 
 /// A row's command with 1 for each operand, and with a list of two numbers.
@@ -100,6 +119,21 @@ fn it_says_how_the_program_is_run() {
         "schedule --help, -h",
     ];
     assert_eq!(rows(&help(), "Usage"), wanted);
+}
+
+#[test]
+fn the_format_has_the_same_commands_and_every_reason() {
+    assert_eq!(format_rows("\n## Commands\n"), rows(&help(), "Commands"));
+    let reasons: BTreeSet<&str> = Fault::ALL.iter().map(|fault| fault.reason()).collect();
+    let told: BTreeSet<&str> = format_rows("\n## Errors\n").into_iter().collect();
+    assert_eq!(told, reasons);
+}
+
+#[test]
+fn the_example_of_the_format() {
+    let (commands, answers) = (format_text("\nExample:\n"), format_text("\nanswers\n"));
+    assert!(commands.starts_with("start "));
+    assert_eq!(String::from_utf8_lossy(&run(commands.as_bytes())), answers);
 }
 
 /// "refused N" for every number, and the answer to a line that is no command.

@@ -53,10 +53,10 @@ fn held(commands: &[Command]) -> bool {
     commands.any(|command| matches!(command, Command::Seize(s) if !released(s)))
 }
 
-/// The paper's words: "a combined or common line on timeslot 0, an SDCCH line, full-rate and
+/// The words of docs/SCHEDULE.md: "a combined or common line on timeslot 0, an SDCCH line, full-rate and
 /// half-rate traffic that hops, some calls held".
 #[test]
-fn the_example_has_what_the_paper_says() {
+fn the_example_has_what_the_format_says() {
     let commands = example().into_iter();
     let commands: Vec<Command> = commands
         .filter_map(|(line, _)| read(line.as_bytes()).ok())
