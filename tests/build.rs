@@ -2,10 +2,13 @@
 use std::fs;
 use std::path::{Path, PathBuf};
 
+/// The library's source that has the number of words.
+const SOURCE: &str = "crates/storage/src/lib.rt";
+
 /// The number of words in the one line of the library's source that has it.
 fn cell_words(source: &Path) -> String {
     println!("cargo:rerun-if-changed={}", source.display());
-    let text = fs::read_to_string(source).expect("the library's crates/cell/src/words.rt");
+    let text = fs::read_to_string(source).expect(SOURCE);
     let number = |line: &str| {
         let rest = line.strip_prefix("pub const WORDS: usize = ")?;
         rest.strip_suffix(';').map(String::from)
@@ -13,13 +16,13 @@ fn cell_words(source: &Path) -> String {
     let numbers: Vec<String> = text.lines().filter_map(number).collect();
     match &numbers[..] {
         [words] => words.clone(),
-        _ => panic!("words.rt: not exactly one line `pub const WORDS: usize = N;`"),
+        _ => panic!("{SOURCE}: not exactly one line `pub const WORDS: usize = N;`"),
     }
 }
 
 fn main() {
     let here = PathBuf::from(std::env::var("CARGO_MANIFEST_DIR").unwrap());
-    let words = cell_words(&here.join("../crates/cell/src/words.rt"));
+    let words = cell_words(&here.join("..").join(SOURCE));
     println!("cargo:rustc-env=LIBRARY_CELL_WORDS={words}");
     let folder = here.join("../target/staticlib");
     let library = folder.join("libtdma.a");

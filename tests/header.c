@@ -8,7 +8,7 @@
 #include <string.h>
 
 #ifndef LIBRARY_CELL_WORDS
-#error "LIBRARY_CELL_WORDS is missing: the number of words that crates/cell/src/words.rt has"
+#error "LIBRARY_CELL_WORDS is missing: the number of words that crates/storage/src/lib.rt has"
 #endif
 
 /* The sizes that the library was built with; a wrong one does not compile. */

@@ -39,13 +39,18 @@ impl Drop for Scratch {
     }
 }
 
+/// The program with its arguments, to be run; what it writes is kept.
+pub fn program(arguments: &[&OsStr]) -> Command {
+    let mut program = Command::new(PROGRAM);
+    program.args(arguments);
+    program.stdout(Stdio::piped()).stderr(Stdio::piped());
+    program
+}
+
 /// Runs the program; `feed` writes its standard input while its output is read.
 pub fn run(arguments: &[&OsStr], feed: impl FnOnce(ChildStdin) + Send) -> Output {
-    let mut child = Command::new(PROGRAM)
-        .args(arguments)
+    let mut child = program(arguments)
         .stdin(Stdio::piped())
-        .stdout(Stdio::piped())
-        .stderr(Stdio::piped())
         .spawn()
         .unwrap_or_else(|error| panic!("{PROGRAM}: {error}"));
     let input = child.stdin.take().expect("its standard input");

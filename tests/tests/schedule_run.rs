@@ -53,10 +53,10 @@ fn held(commands: &[Command]) -> bool {
     commands.any(|command| matches!(command, Command::Seize(s) if !released(s)))
 }
 
-/// The paper's words: "a combined or common line on timeslot 0, an SDCCH line, full-rate and
+/// The words of docs/SCHEDULE.md: "a combined or common line on timeslot 0, an SDCCH line, full-rate and
 /// half-rate traffic that hops, some calls held".
 #[test]
-fn the_example_has_what_the_paper_says() {
+fn the_example_has_what_the_format_says() {
     let commands = example().into_iter();
     let commands: Vec<Command> = commands
         .filter_map(|(line, _)| read(line.as_bytes()).ok())
@@ -112,12 +112,19 @@ fn with_script(mut pipe: std::process::ChildStdin) {
 #[test]
 fn more_than_one_argument() {
     let file = Scratch::new(b"split 51\n");
-    let (file, dash) = (file.path().as_os_str(), OsStr::new("-"));
+    let (file, dash, help) = (
+        file.path().as_os_str(),
+        OsStr::new("-"),
+        OsStr::new("--help"),
+    );
     for arguments in [
         &[file, file][..],
         &[dash, dash],
         &[dash, file],
         &[dash, file, file],
+        &[help, help],
+        &[help, file],
+        &[file, help],
     ] {
         let output = run(arguments, with_script);
         assert_eq!(
@@ -126,7 +133,8 @@ fn more_than_one_argument() {
             "{arguments:?}"
         );
         let complaint = String::from_utf8_lossy(&output.stderr);
-        assert_eq!(complaint, "usage: schedule [FILE | -]\n", "{arguments:?}");
+        let usage = "usage: schedule [FILE | - | --help]\n";
+        assert_eq!(complaint, usage, "{arguments:?}");
     }
 }
 

@@ -1,7 +1,9 @@
 // The program `schedule`: commands in, answers out. With no argument it runs the plan that is built into it, else the commands of a file, or of
-// standard input. Lines are answered in answering.rt, by the proved crates; input.rt and output.rt read and write, table.rt has `table`.
+// standard input; help.rt has the text of `--help`. Lines are answered in answering.rt, by the proved crates; input.rt and output.rt read and
+// write, table.rt has `table`.
 mod answering;
 mod figures;
+mod help;
 mod input;
 mod output;
 mod plan;
@@ -56,6 +58,9 @@ fn answer_plan() {
 }
 
 fn answer_file(path: &[u8]) {
+    if help::is_asked(path) {
+        return help::print();
+    }
     if same(path, b"-") {
         return answer_all(libc::STDIN_FILENO, b"standard input");
     }
@@ -74,7 +79,10 @@ fn main() {
         return answer_plan();
     }
     if count > 2 {
-        io::write_all(libc::STDERR_FILENO, b"usage: schedule [FILE | -]\n");
+        io::write_all(
+            libc::STDERR_FILENO,
+            b"usage: schedule [FILE | - | --help]\n",
+        );
         return;
     }
     let mut path = io::buffer();
