@@ -3,12 +3,9 @@
 use Prim.Native.Nat.{ℕ}
 use mathlib.Core.Path.{_≡_}
 use mathlib.Core.Bool.{true, false}
-use mathlib.Core.List.{List, [], _∷_, _++_, map}
-use Rattle.c_answers.specs.declared.TdmaAnswer.{TdmaAnswer}
-use Rattle.c_answers.specs.declared.TdmaSplit.{TdmaSplit}
+use mathlib.Core.List.{[], _∷_, _++_, map}
 use Rattle.c_answers.specs.declared.TdmaMap.{TdmaMap}
 use Rattle.c_answers.specs.declared.TdmaLine.{TdmaLine}
-use Rattle.c_answers.specs.declared.TdmaWho.{TdmaWho}
 use Rattle.wording.specs.declared.Numeral.the-variants.{Value, NotDigits, TooLarge}
 use Rattle.wording.specs.Words.{ascii, until, run, wordsOf, sameText}
 use Rattle.wording.specs.Numbers.{took, wrong, numberOf, numbersOf, onlyOf, listOf, figure}
