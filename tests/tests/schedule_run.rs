@@ -53,8 +53,8 @@ fn held(commands: &[Command]) -> bool {
     commands.any(|command| matches!(command, Command::Seize(s) if !released(s)))
 }
 
-/// The words of docs/SCHEDULE.md: "a combined or common line on timeslot 0, an SDCCH line, full-rate and
-/// half-rate traffic that hops, some calls held".
+/// The words of docs/SCHEDULE.md: "a combined or common line on timeslot 0, an SDCCH line,
+/// full-rate and half-rate traffic that hops, some calls held".
 #[test]
 fn the_example_has_what_the_format_says() {
     let commands = example().into_iter();
