@@ -13,7 +13,7 @@ use Rattle.answers.proofs.Search.{all-at, First, first-of, least-first}
 use Rattle.answers.proofs.Tables.{every, at-most}
 use Rattle.clock.specs.declared.Frame.{Frame}
 use Rattle.clock.specs.Clock.{partsOf}
-use Rattle.hops.specs.Hopping.{rntable, nbin, M, M′, T′, S, maiOf}
+use Rattle.hops.specs.Hopping.{rntable, nbin, M′, T′, S, maiOf}
 
 -- ---- RNTABLE
 

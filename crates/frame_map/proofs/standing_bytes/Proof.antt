@@ -4,9 +4,7 @@ use native.Mathlib.Omega.{arith}
 use mathlib.Core.Path.{_≡_, refl, ap, _∙_}
 use mathlib.Core.List.{List}
 use Rattle.maps.specs.Channels.{Standing}
-use Rattle.maps.specs.Combinations.{rowsOf}
 use Rattle.maps.specs.Numbers.{standingNumbers, bytes}
-use Rattle.maps.specs.Rows.{standing}
 use Rattle.maps.proofs.Range.{combination-range, other-ranges}
 use Rattle.maps.proofs.Words.{both-directions, all-timeslots}
 use borrow.Author.Needs.{needs}
