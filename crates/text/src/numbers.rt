@@ -3,7 +3,7 @@ use crate::least;
 use crate::words::Next;
 use crate::words::next_word;
 use wording::Numeral;
-ghost use Prim.Native.Nat.{_-_, _^_, _≤_, min};
+ghost use Prim.Native.Nat.{_-_, _≤_, min};
 ghost use mathlib.Core.Path.{_≡_};
 ghost use mathlib.Core.List.{map};
 ghost use lib.ListN.{length, take, drop};
