@@ -3,10 +3,9 @@ use Prim.Native.Nat.{ℕ}
 use mathlib.Core.Path.{_≡_, sym, ap, subst, _∙_}
 use mathlib.Core.List.{List, [], _∷_}
 use Rattle.rules.specs.State.{Cell}
-use Rattle.rules.specs.Calls.{Step, startOf, changed}
+use Rattle.rules.specs.Calls.{Step, changed}
 use Rattle.rules.specs.History.{Call, Made}
-use Rattle.rules.specs.CollisionFree.{CollisionFree, Run, calling, run, begin}
-use Rattle.rules.specs.Reached.{Reached}
+use Rattle.rules.specs.CollisionFree.{CollisionFree, Run, calling, run}
 use Rattle.rules.proofs.Begun.{Begun, start-begun}
 use Rattle.rules.proofs.CollisionFree.{Invariant, begin-keeps, step-keeps, collision-free-of}
 use Rattle.storage.specs.Words.{cellOf}
