@@ -13,7 +13,7 @@ use Rattle.maps.specs.Channels.{Standing, isCommon}
 use Rattle.maps.specs.Rows.{Row, numbered, each, from, standing, stands, told}
 use Rattle.maps.specs.Combinations.{fullRate, halfRate, uncombined, combined, additional, sdcch8, combinations, rowsOf}
 use Rattle.maps.proofs.Same.{sameChannel, channel-same}
-use Rattle.maps.proofs.Repeat.{repeats}
+use Rattle.maps.proofs.Repeat.{repeats, allFrames}
 use Rattle.maps.proofs.Stood.{every-member, stood}
 use Rattle.maps.proofs.AllMaps.{passes, all-maps}
 
@@ -27,7 +27,7 @@ oneChannel [] = true
 oneChannel (x ∷ xs) = every (sameChannel x) (x ∷ xs) && every commonZero (x ∷ xs)
 
 tested : every (passes oneChannel) combinations ≡ true
-unfolding passes every oneChannel repeats allBelow numbered each from standing fullRate halfRate uncombined combined additional sdcch8 combinations
+unfolding passes allFrames every oneChannel repeats allBelow numbered each from standing fullRate halfRate uncombined combined additional sdcch8 combinations
 tested = refl
 
 module _ (tn : ℕ) (hn : tn < 8) (d : ℕ) (hd : d < 2) (fn : ℕ) (n : ℕ) where

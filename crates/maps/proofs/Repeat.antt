@@ -28,11 +28,12 @@ standing-mod p (r ∷ rs) e fn =
     ∙ ap (put (stands r fn) (told r)) (standing-mod p rs (and-right (eqb (p % r .period) 0) _ e) fn)
 
 -- a test of what stands in a frame, passed in each of the p frames that repeat ..
-abbrev pub allFrames : (List Standing → Bool) → ℕ → List Row → Bool
+unfoldable pub allFrames : (List Standing → Bool) → ℕ → List Row → Bool
 allFrames test p rows = ltb 0 p && (repeats p rows && allBelow (λ (f : ℕ). test (standing rows f)) p)
 
 -- .. is passed in every frame
 pub every-frame : (test : List Standing → Bool) (p : ℕ) (rows : List Row) → allFrames test p rows ≡ true → (fn : ℕ) → test (standing rows fn) ≡ true
+unfolding allFrames
 every-frame test p rows e fn =
     let w = and-right (ltb 0 p) (repeats p rows && allBelow (λ (f : ℕ). test (standing rows f)) p) e in
     ap test (sym (standing-mod p rows (and-left (repeats p rows) _ w) fn))

@@ -14,7 +14,7 @@ use Rattle.maps.specs.Rows.{numbered, each, from, standing}
 use Rattle.maps.specs.Combinations.{fullRate, halfRate, uncombined, combined, additional, sdcch8, combinations, rowsOf}
 use Rattle.maps.specs.Numbers.{Numbers, standingNumbers, bytes, numbersAt, standingOf}
 use Rattle.maps.proofs.Same.{sameAll, all-same}
-use Rattle.maps.proofs.Repeat.{repeats}
+use Rattle.maps.proofs.Repeat.{repeats, allFrames}
 use Rattle.maps.proofs.AllMaps.{passes, all-maps}
 
 abbrev sameNumbers : Numbers → Numbers → Bool
@@ -30,7 +30,7 @@ unfoldable whole : List Standing → Bool
 whole xs = sameNumbers (numbersAt (bytes (standingNumbers xs))) (standingNumbers xs) && sameAll (standingOf (standingNumbers xs)) xs
 
 tested : every (passes whole) combinations ≡ true
-unfolding passes every whole sameAll standingNumbers standingOf kindAt repeats allBelow numbered each from standing fullRate halfRate uncombined combined additional sdcch8 combinations
+unfolding passes allFrames every whole sameAll standingNumbers standingOf kindAt repeats allBelow numbered each from standing fullRate halfRate uncombined combined additional sdcch8 combinations
 tested = refl
 
 -- eight equal numbers make equal answers

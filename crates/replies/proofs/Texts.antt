@@ -1,17 +1,20 @@
 -- What each answer reads like, case by case. Assumes nothing.
-use Prim.Native.Nat.{ℕ, _≤_}
+use Prim.Native.Nat.{ℕ, _+_, _-_, _*_, _≤_}
 use mathlib.Core.Path.{_≡_, refl, _∙_}
-use mathlib.Core.Bool.{true, false}
+use mathlib.Core.Bool.{true, false, cond}
 use mathlib.Core.List.{List, [], _∷_, _++_}
-use mathlib.Core.Logic.{_≢_, _⊎_}
+use mathlib.Core.Logic.{_≢_}
+use lib.Dec.{ltb}
+use lib.ListN.{length, take, drop, getD}
 use borrow.Author.Tests.{eq-eqb, ne-eqb}
+use Rattle.answers.specs.Search.{allBelow}
 use Rattle.wording.specs.Words.{ascii}
 use Rattle.wording.specs.Print.{spaced}
 use Rattle.c_answers.specs.declared.TdmaSplit.{TdmaSplit}
 use Rattle.c_answers.specs.declared.TdmaLine.{TdmaLine}
 use Rattle.c_answers.specs.declared.TdmaWho.{TdmaWho}
 use Rattle.wording.specs.Replies.{hasValue, refusedText, answered, splitText, channels, channelText, contentText, slotText, lineText, whoText, reasons, reasonText}
-use Rattle.replies.proofs.Choices.{first, second, no-name}
+use Rattle.replies.proofs.Choices.{first, second, nine, width, cut}
 
 pub with-value : (r v : ℕ) → hasValue r ≡ true → refusedText r v ≡ ascii "refused" ++ spaced (r ∷ v ∷ []) ++ ascii "\n"
 unfolding refusedText
@@ -79,11 +82,27 @@ module _ (a : TdmaLine) where
 
 -- ---- names by number
 
-module _ (n : ℕ) (h : (n ≡ 0) ⊎ (9 ≤ n)) where
-  pub no-channel : channelText n ≡ []
-  unfolding channelText
-  no-channel = no-name channels n refl refl h
+module _ (n k : ℕ) (l : k ≤ 8) (e : k ≡ cond (ltb 8 n) 0 n) where
+  pub channel-width : (getD (0 ∷ 3 ∷ 5 ∷ 5 ∷ 4 ∷ 3 ∷ 4 ∷ 4 ∷ 4 ∷ []) k 0 ≤ 5) × (getD (0 ∷ 3 ∷ 5 ∷ 5 ∷ 4 ∷ 3 ∷ 4 ∷ 4 ∷ 4 ∷ []) k 0 ≡ length (channelText n))
+  unfolding channelText allBelow
+  channel-width = width channels refl refl n k l e (0 ∷ 3 ∷ 5 ∷ 5 ∷ 4 ∷ 3 ∷ 4 ∷ 4 ∷ 4 ∷ []) 5 refl
 
-  pub no-reason : reasonText n ≡ []
-  unfolding reasonText
-  no-reason = no-name reasons n refl refl h
+  pub reason-width : (getD (0 ∷ 15 ∷ 13 ∷ 13 ∷ 14 ∷ 12 ∷ 16 ∷ 15 ∷ 13 ∷ []) k 0 ≤ 16) × (getD (0 ∷ 15 ∷ 13 ∷ 13 ∷ 14 ∷ 12 ∷ 16 ∷ 15 ∷ 13 ∷ []) k 0 ≡ length (reasonText n))
+  unfolding reasonText allBelow
+  reason-width = width reasons refl refl n k l e (0 ∷ 15 ∷ 13 ∷ 13 ∷ 14 ∷ 12 ∷ 16 ∷ 15 ∷ 13 ∷ []) 16 refl
+
+  module _ (w : ℕ) where
+    pub channel-cut : w ≡ length (channelText n) → take (5 * k + w - 5 * k) (drop (5 * k) (ascii "     TCH  SACCHSDCCHFCCH SCH  BCCH CCCH RACH ")) ≡ channelText n
+    unfolding channelText
+    channel-cut h =
+        cut channels refl refl n k l e (5 * k) w _
+        (nine (λ (j : ℕ). take (length (getD channels j [])) (drop (5 * j) (ascii "     TCH  SACCHSDCCHFCCH SCH  BCCH CCCH RACH ")) ≡ getD channels j []) refl refl refl refl refl refl refl refl refl k l)
+        h
+
+    pub reason-cut : w ≡ length (reasonText n)
+        → take (16 * k + w - 16 * k) (drop (16 * k) (ascii "                unknown command unknown burst   too few words   too many words  not a number    number too largecount too large line too long   ")) ≡ reasonText n
+    unfolding reasonText
+    reason-cut h =
+        cut reasons refl refl n k l e (16 * k) w _
+        (nine (λ (j : ℕ). take (length (getD reasons j [])) (drop (16 * j) (ascii "                unknown command unknown burst   too few words   too many words  not a number    number too largecount too large line too long   ")) ≡ getD reasons j []) refl refl refl refl refl refl refl refl refl k l)
+        h

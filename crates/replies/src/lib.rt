@@ -9,6 +9,10 @@ use text::print::put_bits;
 use text::print::put_number;
 use text::print::put_numbers;
 ghost use mathlib.Core.Path.{_≡_};
+ghost use mathlib.Core.Bool.{cond};
+ghost use lib.Dec.{ltb};
+ghost use Prim.Native.Nat.{_≤_};
+ghost use lib.ListN.{length};
 ghost use Rattle.wording.specs.Print.{Appended};
 ghost use Rattle.wording.specs.Replies.{hasValue, refusedText, numbersText, splitText, channelText, contentText, mapText, slotText, lineText, whoText, bitsText, reasonText, errorText};
 
@@ -58,35 +62,32 @@ pub fn split(out: &mut [u8], at: usize, a: TdmaSplit) -> usize
     put(out, end, b"\n")
 }
 
+// A number that has a name among eight, or else 0.
+fn named(number: u32) -> usize
+    ensures { λ r. ⌜ (r ≤ 8) × (r ≡ cond (ltb 8 number) 0 number) ⌝ }
+{
+    if number > 8 {
+        return 0;
+    }
+    number as usize
+}
+
+// How many letters the name of a channel has.
+pub fn channel_width(number: u32) -> usize
+    ensures { λ r. ⌜ (r ≤ 5) × (r ≡ length (channelText number)) ⌝ }
+{
+    let widths = [0usize, 3, 5, 5, 4, 3, 4, 4, 4];
+    widths[named(number)]
+}
+
 // The name of a channel; none has another number.
-fn channel(out: &mut [u8], at: usize, number: u32) -> usize
+pub fn channel(out: &mut [u8], at: usize, number: u32) -> usize
     ensures { λ r. ⌜ Appended (now (out .entry)) at (now (out .exit)) r (channelText number) ⌝ }
 {
-    if number == 1 {
-        return put(out, at, b"TCH");
-    }
-    if number == 2 {
-        return put(out, at, b"SACCH");
-    }
-    if number == 3 {
-        return put(out, at, b"SDCCH");
-    }
-    if number == 4 {
-        return put(out, at, b"FCCH");
-    }
-    if number == 5 {
-        return put(out, at, b"SCH");
-    }
-    if number == 6 {
-        return put(out, at, b"BCCH");
-    }
-    if number == 7 {
-        return put(out, at, b"CCCH");
-    }
-    if number == 8 {
-        return put(out, at, b"RACH");
-    }
-    put(out, at, b"")
+    let names = *b"     TCH  SACCHSDCCHFCCH SCH  BCCH CCCH RACH ";
+    let start = 5 * named(number);
+    let end = start + channel_width(number);
+    put(out, at, &names[start..end])
 }
 
 // Idle, or a channel with its numbers, and with the second block and place where there are two.
@@ -172,35 +173,22 @@ pub fn bits(out: &mut [u8], at: usize, a: TdmaAnswer, bits: &[u8]) -> usize
     put(out, end, b"\n")
 }
 
+fn reason_width(number: u32) -> usize
+    ensures { λ r. ⌜ (r ≤ 16) × (r ≡ length (reasonText number)) ⌝ }
+{
+    let widths = [0usize, 15, 13, 13, 14, 12, 16, 15, 13];
+    widths[named(number)]
+}
+
 // Why a line is no command; none has another number.
 fn reason(out: &mut [u8], at: usize, number: u32) -> usize
     ensures { λ r. ⌜ Appended (now (out .entry)) at (now (out .exit)) r (reasonText number) ⌝ }
 {
-    if number == 1 {
-        return put(out, at, b"unknown command");
-    }
-    if number == 2 {
-        return put(out, at, b"unknown burst");
-    }
-    if number == 3 {
-        return put(out, at, b"too few words");
-    }
-    if number == 4 {
-        return put(out, at, b"too many words");
-    }
-    if number == 5 {
-        return put(out, at, b"not a number");
-    }
-    if number == 6 {
-        return put(out, at, b"number too large");
-    }
-    if number == 7 {
-        return put(out, at, b"count too large");
-    }
-    if number == 8 {
-        return put(out, at, b"line too long");
-    }
-    put(out, at, b"")
+    let reasons =
+        *b"                unknown command unknown burst   too few words   too many words  not a number    number too largecount too large line too long   ";
+    let start = 16 * named(number);
+    let end = start + reason_width(number);
+    put(out, at, &reasons[start..end])
 }
 
 // The answer to a line that is no command.

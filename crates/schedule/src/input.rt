@@ -127,6 +127,22 @@ fn read_more(fd: i32, buffer: &mut [u8], waiting: usize) -> Fill
     }
 }
 
+// The answers to all lines that are whole.
+fn answered(
+    buffer: &mut [u8],
+    filled: usize,
+    state: State,
+    cell: &mut [u32; WORDS],
+    list: &mut [u16],
+    figures: &mut [u8],
+    out: &mut [u8],
+) -> Input {
+    let end = least(filled, buffer.len());
+    let lines = answering::all(cell, &buffer[..end], state, false, list, figures, out);
+    let state = lines.state;
+    rest(buffer, lines.end, filled, out, state)
+}
+
 // One read, and the answers to all lines that are whole then.
 fn turn(
     fd: i32,
@@ -148,9 +164,7 @@ fn turn(
     if filled == input.filled {
         return last(cell, &buffer[..filled], state, list, figures, out);
     }
-    let lines = answering::all(cell, &buffer[..filled], state, false, list, figures, out);
-    let state = lines.state;
-    rest(buffer, lines.end, filled, out, state)
+    answered(buffer, filled, state, cell, list, figures, out)
 }
 
 // Reads to the end. A loop has to end, and nothing says that the input does: it counts its turns down from a number that no run uses up.

@@ -9,6 +9,7 @@ mod output;
 mod plan;
 mod run;
 mod run_bursts;
+mod run_words;
 mod table;
 
 use storage::WORDS;

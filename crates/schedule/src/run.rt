@@ -1,283 +1,135 @@
-// One function for each command but `table`: it reads the line's words from where the command's own word ends, makes the call and writes the answer,
-// or why the line is no command; the result is where that ends. The bursts are in run_bursts.rt.
-use crate::figures::next_figures;
+// The commands but `table`: a line's words are read from where the command's own word ends, the call is made and the answer written, or why the
+// line is no command; the result is where that ends. The commands of numbers only are here, with who answers which; those that have a list of
+// ARFCNs or an IMSI are in run_words.rt, the bursts in run_bursts.rt.
 use crate::run_bursts;
+use crate::run_words;
+use c_answers::TdmaAnswer;
 use replies::error;
 use storage::WORDS;
 use tdma::cells;
 use text::numbers;
 use text::numbers::narrow;
-use text::numbers::only;
 
-fn split(line: &[u8], from: usize, number: u64, out: &mut [u8], at: usize) -> usize {
-    let taken = only(line, from, 1);
-    if taken.reason != 0 {
-        return error(out, at, number, taken.reason);
-    }
-    replies::split(out, at, tdma::tdma_split(narrow(taken.values[0])))
+// Numbers as the calls take them: each as 32 bits hold it, and the third one whole, for a mask.
+pub(crate) struct Arguments {
+    pub(crate) first: u32,
+    pub(crate) second: u32,
+    pub(crate) third: u32,
+    pub(crate) fourth: u32,
+    pub(crate) fifth: u32,
+    pub(crate) sixth: u32,
+    pub(crate) seventh: u32,
+    pub(crate) mask: u64,
 }
 
-fn join(line: &[u8], from: usize, number: u64, out: &mut [u8], at: usize) -> usize {
-    let taken = only(line, from, 3);
-    if taken.reason != 0 {
-        return error(out, at, number, taken.reason);
+pub(crate) fn narrowed(values: [u64; 7]) -> Arguments {
+    Arguments {
+        first: narrow(values[0]),
+        second: narrow(values[1]),
+        third: narrow(values[2]),
+        fourth: narrow(values[3]),
+        fifth: narrow(values[4]),
+        sixth: narrow(values[5]),
+        seventh: narrow(values[6]),
+        mask: values[2],
     }
-    let a = tdma::tdma_join(
-        narrow(taken.values[0]),
-        narrow(taken.values[1]),
-        narrow(taken.values[2]),
-    );
-    replies::numbers(out, at, a.refusal, 0, &[a.frame])
 }
 
-fn hop(
-    line: &[u8],
-    from: usize,
-    number: u64,
-    list: &mut [u16],
-    out: &mut [u8],
-    at: usize,
-) -> usize {
-    let taken = numbers::numbers(line, from, 4);
-    if taken.reason != 0 {
-        return error(out, at, number, taken.reason);
+// How many numbers a command has.
+fn count_of(command: u32) -> usize {
+    if (command == commands::SPLIT) | (command == commands::CLOSE) {
+        return 1;
     }
-    let listed = numbers::list(line, taken.end, list);
-    if listed.reason != 0 {
-        return error(out, at, number, listed.reason);
+    if (command == commands::MAP) | (command == commands::WHO) {
+        return 4;
     }
-    let count = listed.count;
-    let a = tdma::tdma_hop(
-        &list[..count],
-        taken.values[0],
-        narrow(taken.values[1]),
-        narrow(taken.values[2]),
-        narrow(taken.values[3]),
-    );
-    replies::numbers(out, at, a.refusal, 0, &[a.arfcn])
+    if command == commands::OPEN {
+        return 7;
+    }
+    3
 }
 
-fn map(line: &[u8], from: usize, number: u64, out: &mut [u8], at: usize) -> usize {
-    let taken = only(line, from, 4);
-    if taken.reason != 0 {
-        return error(out, at, number, taken.reason);
+// The calls that change the cell, but start.
+fn change(cell: &mut [u32; WORDS], command: u32, a: Arguments) -> TdmaAnswer {
+    if command == commands::CLOSE {
+        return cells::tdma_close(cell, a.first);
     }
-    let a = tdma::tdma_map(
-        narrow(taken.values[0]),
-        narrow(taken.values[1]),
-        narrow(taken.values[2]),
-        narrow(taken.values[3]),
-    );
-    replies::map(out, at, a)
+    if command == commands::SEIZE {
+        return cells::tdma_seize(cell, a.first, a.second, a.third);
+    }
+    if command == commands::RELEASE {
+        return cells::tdma_release(cell, a.first, a.second, a.third);
+    }
+    cells::tdma_open(
+        cell,
+        a.first,
+        a.second,
+        a.mask,
+        a.fourth,
+        a.fifth,
+        a.sixth,
+        a.seventh,
+    )
 }
 
-fn start(
+// What the cell is asked, or how it is changed.
+fn with_cell(
     cell: &mut [u32; WORDS],
-    line: &[u8],
-    from: usize,
-    number: u64,
-    list: &mut [u16],
+    command: u32,
+    a: Arguments,
     out: &mut [u8],
     at: usize,
 ) -> usize {
-    let taken = numbers::numbers(line, from, 4);
-    if taken.reason != 0 {
-        return error(out, at, number, taken.reason);
+    if command == commands::LINE {
+        return replies::line(out, at, cells::tdma_line(cell, a.first, a.second, a.third));
     }
-    let listed = numbers::list(line, taken.end, list);
-    if listed.reason != 0 {
-        return error(out, at, number, listed.reason);
+    if command == commands::WHO {
+        return replies::who(
+            out,
+            at,
+            cells::tdma_who(cell, a.first, a.second, a.third, a.fourth),
+        );
     }
-    let count = listed.count;
-    let a = cells::tdma_start(
-        cell,
-        &list[..count],
-        narrow(taken.values[0]),
-        narrow(taken.values[1]),
-        narrow(taken.values[2]),
-        narrow(taken.values[3]),
-    );
-    replies::numbers(out, at, a.refusal, a.value, &[])
+    let b = change(cell, command, a);
+    replies::numbers(out, at, b.refusal, b.value, &[])
 }
 
-fn open(
+// The calls on plain numbers.
+fn without_cell(command: u32, a: Arguments, out: &mut [u8], at: usize) -> usize {
+    if command == commands::SPLIT {
+        return replies::split(out, at, tdma::tdma_split(a.first));
+    }
+    if command == commands::MAP {
+        return replies::map(
+            out,
+            at,
+            tdma::tdma_map(a.first, a.second, a.third, a.fourth),
+        );
+    }
+    let b = tdma::tdma_join(a.first, a.second, a.third);
+    replies::numbers(out, at, b.refusal, 0, &[b.frame])
+}
+
+// The commands of numbers only.
+fn of_numbers(
     cell: &mut [u32; WORDS],
-    line: &[u8],
-    from: usize,
-    number: u64,
-    out: &mut [u8],
-    at: usize,
-) -> usize {
-    let taken = only(line, from, 7);
-    if taken.reason != 0 {
-        return error(out, at, number, taken.reason);
-    }
-    let a = cells::tdma_open(
-        cell,
-        narrow(taken.values[0]),
-        narrow(taken.values[1]),
-        taken.values[2],
-        narrow(taken.values[3]),
-        narrow(taken.values[4]),
-        narrow(taken.values[5]),
-        narrow(taken.values[6]),
-    );
-    replies::numbers(out, at, a.refusal, a.value, &[])
-}
-
-fn close(
-    cell: &mut [u32; WORDS],
-    line: &[u8],
-    from: usize,
-    number: u64,
-    out: &mut [u8],
-    at: usize,
-) -> usize {
-    let taken = only(line, from, 1);
-    if taken.reason != 0 {
-        return error(out, at, number, taken.reason);
-    }
-    let a = cells::tdma_close(cell, narrow(taken.values[0]));
-    replies::numbers(out, at, a.refusal, a.value, &[])
-}
-
-fn seize(
-    cell: &mut [u32; WORDS],
-    line: &[u8],
-    from: usize,
-    number: u64,
-    out: &mut [u8],
-    at: usize,
-) -> usize {
-    let taken = only(line, from, 3);
-    if taken.reason != 0 {
-        return error(out, at, number, taken.reason);
-    }
-    let a = cells::tdma_seize(
-        cell,
-        narrow(taken.values[0]),
-        narrow(taken.values[1]),
-        narrow(taken.values[2]),
-    );
-    replies::numbers(out, at, a.refusal, a.value, &[])
-}
-
-fn release(
-    cell: &mut [u32; WORDS],
-    line: &[u8],
-    from: usize,
-    number: u64,
-    out: &mut [u8],
-    at: usize,
-) -> usize {
-    let taken = only(line, from, 3);
-    if taken.reason != 0 {
-        return error(out, at, number, taken.reason);
-    }
-    let a = cells::tdma_release(
-        cell,
-        narrow(taken.values[0]),
-        narrow(taken.values[1]),
-        narrow(taken.values[2]),
-    );
-    replies::numbers(out, at, a.refusal, a.value, &[])
-}
-
-fn line_of(
-    cell: &[u32; WORDS],
-    line: &[u8],
-    from: usize,
-    number: u64,
-    out: &mut [u8],
-    at: usize,
-) -> usize {
-    let taken = only(line, from, 3);
-    if taken.reason != 0 {
-        return error(out, at, number, taken.reason);
-    }
-    let a = cells::tdma_line(
-        cell,
-        narrow(taken.values[0]),
-        narrow(taken.values[1]),
-        narrow(taken.values[2]),
-    );
-    replies::line(out, at, a)
-}
-
-fn who(
-    cell: &[u32; WORDS],
-    line: &[u8],
-    from: usize,
-    number: u64,
-    out: &mut [u8],
-    at: usize,
-) -> usize {
-    let taken = only(line, from, 4);
-    if taken.reason != 0 {
-        return error(out, at, number, taken.reason);
-    }
-    let a = cells::tdma_who(
-        cell,
-        narrow(taken.values[0]),
-        narrow(taken.values[1]),
-        narrow(taken.values[2]),
-        narrow(taken.values[3]),
-    );
-    replies::who(out, at, a)
-}
-
-fn page(
-    cell: &[u32; WORDS],
-    line: &[u8],
-    from: usize,
-    number: u64,
-    figures: &mut [u8],
-    out: &mut [u8],
-    at: usize,
-) -> usize {
-    let word = next_figures(line, from, figures);
-    if word.reason != 0 {
-        return error(out, at, number, word.reason);
-    }
-    let taken = only(line, word.end, 1);
-    if taken.reason != 0 {
-        return error(out, at, number, taken.reason);
-    }
-    let count = word.count;
-    let a = cells::tdma_page(cell, &figures[..count], narrow(taken.values[0]));
-    replies::numbers(out, at, a.refusal, 0, &[a.tn, a.block, a.frame])
-}
-
-// The commands that leave the cell alone and ask nothing of it.
-fn without_cell(
     command: u32,
     line: &[u8],
     from: usize,
     number: u64,
-    list: &mut [u16],
-    figures: &mut [u8],
     out: &mut [u8],
     at: usize,
 ) -> usize {
-    if command == commands::SPLIT {
-        return split(line, from, number, out, at);
+    let taken = numbers::only(line, from, count_of(command));
+    if taken.reason != 0 {
+        return error(out, at, number, taken.reason);
     }
-    if command == commands::JOIN {
-        return join(line, from, number, out, at);
+    let values = taken.values;
+    let a = narrowed(values);
+    if command < commands::START {
+        return without_cell(command, a, out, at);
     }
-    if command == commands::HOP {
-        return hop(line, from, number, list, out, at);
-    }
-    if command == commands::MAP {
-        return map(line, from, number, out, at);
-    }
-    if command == commands::BUILD {
-        return run_bursts::build(line, from, number, figures, out, at);
-    }
-    if command == commands::TAKE {
-        return run_bursts::take(line, from, number, figures, out, at);
-    }
-    error(out, at, number, numbers::UNKNOWN_COMMAND)
+    with_cell(cell, command, a, out, at)
 }
 
 // The answer to a command, by its number in the crate `commands`. `from`: where its word ends. `number`: the line's, for an error. `list` and `figures` are lent
@@ -293,29 +145,17 @@ pub(crate) fn answer(
     out: &mut [u8],
     at: usize,
 ) -> usize {
-    if command == commands::START {
-        return start(cell, line, from, number, list, out, at);
+    if command == 0 {
+        return error(out, at, number, numbers::UNKNOWN_COMMAND);
     }
-    if command == commands::OPEN {
-        return open(cell, line, from, number, out, at);
-    }
-    if command == commands::CLOSE {
-        return close(cell, line, from, number, out, at);
-    }
-    if command == commands::SEIZE {
-        return seize(cell, line, from, number, out, at);
-    }
-    if command == commands::RELEASE {
-        return release(cell, line, from, number, out, at);
-    }
-    if command == commands::LINE {
-        return line_of(cell, line, from, number, out, at);
-    }
-    if command == commands::WHO {
-        return who(cell, line, from, number, out, at);
+    if (command == commands::HOP) | (command == commands::START) {
+        return run_words::of_list(cell, command, line, from, number, list, out, at);
     }
     if command == commands::PAGE {
-        return page(cell, line, from, number, figures, out, at);
+        return run_words::page(cell, line, from, number, figures, out, at);
     }
-    without_cell(command, line, from, number, list, figures, out, at)
+    if (command == commands::BUILD) | (command == commands::TAKE) {
+        return run_bursts::of_burst(command, line, from, number, figures, out, at);
+    }
+    of_numbers(cell, command, line, from, number, out, at)
 }

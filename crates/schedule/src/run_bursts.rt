@@ -1,12 +1,15 @@
 // The commands `build` and `take`, as run.rt has the others: the second word names the burst.
 use crate::figures::extra;
 use crate::figures::last_figures;
+use c_answers::TdmaAnswer;
 use replies::error;
 use tdma::buffers;
 use text::numbers;
 use text::numbers::narrow;
 use text::words::Next;
 use text::words::next_word;
+ghost use Prim.Native.Nat.{_≤_};
+ghost use lib.ListN.{length};
 
 // The burst that a word names, and where the word ends; or the reason, if `reason` is not 0.
 struct Named {
@@ -30,173 +33,152 @@ fn burst_at(line: &[u8], from: usize) -> Named {
     }
 }
 
-fn build_normal(
-    line: &[u8],
-    from: usize,
-    number: u64,
-    figures: &mut [u8],
-    out: &mut [u8],
-    at: usize,
-) -> usize {
+// Whether there is a burst of this number for the command: frequency correction and dummy bursts are built only.
+fn is_burst(command: u32, burst: u32) -> bool {
+    if command == commands::TAKE {
+        return (burst != 0) & (burst <= commands::ACCESS);
+    }
+    burst != 0
+}
+
+// The training sequence code of a normal burst, 0 for another, and where the words before the bits end; or the reason, if `reason` is not 0.
+struct Training {
+    reason: u32,
+    tsc: u32,
+    end: usize,
+}
+
+fn code_at(line: &[u8], from: usize, burst: u32) -> Training {
+    if burst != commands::NORMAL {
+        return Training {
+            reason: 0,
+            tsc: 0,
+            end: from,
+        };
+    }
     let taken = numbers::numbers(line, from, 1);
-    if taken.reason != 0 {
-        return error(out, at, number, taken.reason);
+    Training {
+        reason: taken.reason,
+        tsc: narrow(taken.values[0]),
+        end: taken.end,
     }
-    let word = last_figures(line, taken.end, figures);
-    if word.reason != 0 {
-        return error(out, at, number, word.reason);
-    }
-    let count = word.count;
-    let mut burst = [0u8; 148];
-    let a = buffers::tdma_build_normal(narrow(taken.values[0]), &figures[..count], &mut burst);
-    replies::bits(out, at, a, &burst)
 }
 
-fn take_normal(
-    line: &[u8],
-    from: usize,
-    number: u64,
-    figures: &mut [u8],
-    out: &mut [u8],
-    at: usize,
-) -> usize {
-    let taken = numbers::numbers(line, from, 1);
-    if taken.reason != 0 {
-        return error(out, at, number, taken.reason);
-    }
-    let word = last_figures(line, taken.end, figures);
-    if word.reason != 0 {
-        return error(out, at, number, word.reason);
-    }
-    let count = word.count;
-    let mut payload = [0u8; 116];
-    let a = buffers::tdma_take_normal(narrow(taken.values[0]), &figures[..count], &mut payload);
-    replies::bits(out, at, a, &payload)
+// The burst, its training sequence code, and how many bits are given; or the reason, if `reason` is not 0.
+struct Words {
+    reason: u32,
+    burst: u32,
+    tsc: u32,
+    count: usize,
 }
 
-fn build_sync(
-    line: &[u8],
-    from: usize,
-    number: u64,
-    figures: &mut [u8],
-    out: &mut [u8],
-    at: usize,
-) -> usize {
-    let word = last_figures(line, from, figures);
-    if word.reason != 0 {
-        return error(out, at, number, word.reason);
+fn nothing_given(reason: u32) -> Words
+    ensures { λ r. ⌜ r .count ≤ 0 ⌝ }
+{
+    Words {
+        reason,
+        burst: 0,
+        tsc: 0,
+        count: 0,
     }
-    let count = word.count;
-    let mut burst = [0u8; 148];
-    let a = buffers::tdma_build_synchronization(&figures[..count], &mut burst);
-    replies::bits(out, at, a, &burst)
 }
 
-fn take_sync(
-    line: &[u8],
-    from: usize,
-    number: u64,
-    figures: &mut [u8],
-    out: &mut [u8],
-    at: usize,
-) -> usize {
-    let word = last_figures(line, from, figures);
-    if word.reason != 0 {
-        return error(out, at, number, word.reason);
-    }
-    let count = word.count;
-    let mut payload = [0u8; 78];
-    let a = buffers::tdma_take_synchronization(&figures[..count], &mut payload);
-    replies::bits(out, at, a, &payload)
-}
-
-fn build_access(
-    line: &[u8],
-    from: usize,
-    number: u64,
-    figures: &mut [u8],
-    out: &mut [u8],
-    at: usize,
-) -> usize {
-    let word = last_figures(line, from, figures);
-    if word.reason != 0 {
-        return error(out, at, number, word.reason);
-    }
-    let count = word.count;
-    let mut burst = [0u8; 88];
-    let a = buffers::tdma_build_access(&figures[..count], &mut burst);
-    replies::bits(out, at, a, &burst)
-}
-
-fn take_access(
-    line: &[u8],
-    from: usize,
-    number: u64,
-    figures: &mut [u8],
-    out: &mut [u8],
-    at: usize,
-) -> usize {
-    let word = last_figures(line, from, figures);
-    if word.reason != 0 {
-        return error(out, at, number, word.reason);
-    }
-    let count = word.count;
-    let mut payload = [0u8; 36];
-    let a = buffers::tdma_take_access(&figures[..count], &mut payload);
-    replies::bits(out, at, a, &payload)
-}
-
-fn build_frequency(line: &[u8], from: usize, number: u64, out: &mut [u8], at: usize) -> usize {
-    let reason = extra(line, from);
-    if reason != 0 {
-        return error(out, at, number, reason);
-    }
-    let mut burst = [0u8; 148];
-    let a = buffers::tdma_build_frequency_correction(&mut burst);
-    replies::bits(out, at, a, &burst)
-}
-
-fn build_dummy(line: &[u8], from: usize, number: u64, out: &mut [u8], at: usize) -> usize {
-    let reason = extra(line, from);
-    if reason != 0 {
-        return error(out, at, number, reason);
-    }
-    let mut burst = [0u8; 148];
-    let a = buffers::tdma_build_dummy(&mut burst);
-    replies::bits(out, at, a, &burst)
-}
-
-pub(crate) fn build(
-    line: &[u8],
-    from: usize,
-    number: u64,
-    figures: &mut [u8],
-    out: &mut [u8],
-    at: usize,
-) -> usize {
+fn given(line: &[u8], from: usize, command: u32, figures: &mut [u8]) -> Words
+    ensures { λ r. ⌜ r .count ≤ length (now (figures .exit)) ⌝ }
+{
     let named = burst_at(line, from);
     if named.reason != 0 {
-        return error(out, at, number, named.reason);
+        return nothing_given(named.reason);
     }
-    if named.burst == commands::NORMAL {
-        return build_normal(line, named.end, number, figures, out, at);
+    if !is_burst(command, named.burst) {
+        return nothing_given(numbers::UNKNOWN_BURST);
     }
-    if named.burst == commands::SYNC {
-        return build_sync(line, named.end, number, figures, out, at);
+    if named.burst > commands::ACCESS {
+        return Words {
+            reason: extra(line, named.end),
+            burst: named.burst,
+            tsc: 0,
+            count: 0,
+        };
     }
-    if named.burst == commands::ACCESS {
-        return build_access(line, named.end, number, figures, out, at);
+    let code = code_at(line, named.end, named.burst);
+    if code.reason != 0 {
+        return nothing_given(code.reason);
     }
-    if named.burst == commands::FREQUENCY {
-        return build_frequency(line, named.end, number, out, at);
+    let word = last_figures(line, code.end, figures);
+    Words {
+        reason: word.reason,
+        burst: named.burst,
+        tsc: code.tsc,
+        count: word.count,
     }
-    if named.burst == commands::DUMMY {
-        return build_dummy(line, named.end, number, out, at);
-    }
-    error(out, at, number, numbers::UNKNOWN_BURST)
 }
 
-pub(crate) fn take(
+// How many bits a burst has, or its payload.
+fn size_of(command: u32, burst: u32) -> usize
+    ensures { λ r. ⌜ r ≤ 148 ⌝ }
+{
+    if command == commands::BUILD {
+        if burst == commands::ACCESS {
+            return 88;
+        }
+        return 148;
+    }
+    if burst == commands::NORMAL {
+        return 116;
+    }
+    if burst == commands::SYNC {
+        return 78;
+    }
+    36
+}
+
+fn build(burst: u32, tsc: u32, payload: &[u8], bits: &mut [u8]) -> TdmaAnswer {
+    if burst == commands::NORMAL {
+        return buffers::tdma_build_normal(tsc, payload, bits);
+    }
+    if burst == commands::SYNC {
+        return buffers::tdma_build_synchronization(payload, bits);
+    }
+    if burst == commands::ACCESS {
+        return buffers::tdma_build_access(payload, bits);
+    }
+    if burst == commands::FREQUENCY {
+        return buffers::tdma_build_frequency_correction(bits);
+    }
+    buffers::tdma_build_dummy(bits)
+}
+
+fn take(burst: u32, tsc: u32, bits: &[u8], payload: &mut [u8]) -> TdmaAnswer {
+    if burst == commands::NORMAL {
+        return buffers::tdma_take_normal(tsc, bits, payload);
+    }
+    if burst == commands::SYNC {
+        return buffers::tdma_take_synchronization(bits, payload);
+    }
+    buffers::tdma_take_access(bits, payload)
+}
+
+// The call, with the bits of the answer in the last buffer, and what it says.
+fn call(
+    command: u32,
+    burst: u32,
+    tsc: u32,
+    given: &[u8],
+    bits: &mut [u8],
+    out: &mut [u8],
+    at: usize,
+) -> usize {
+    if command == commands::BUILD {
+        let a = build(burst, tsc, given, bits);
+        return replies::bits(out, at, a, bits);
+    }
+    let a = take(burst, tsc, given, bits);
+    replies::bits(out, at, a, bits)
+}
+
+pub(crate) fn of_burst(
+    command: u32,
     line: &[u8],
     from: usize,
     number: u64,
@@ -204,18 +186,20 @@ pub(crate) fn take(
     out: &mut [u8],
     at: usize,
 ) -> usize {
-    let named = burst_at(line, from);
-    if named.reason != 0 {
-        return error(out, at, number, named.reason);
+    let words = given(line, from, command, figures);
+    if words.reason != 0 {
+        return error(out, at, number, words.reason);
     }
-    if named.burst == commands::NORMAL {
-        return take_normal(line, named.end, number, figures, out, at);
-    }
-    if named.burst == commands::SYNC {
-        return take_sync(line, named.end, number, figures, out, at);
-    }
-    if named.burst == commands::ACCESS {
-        return take_access(line, named.end, number, figures, out, at);
-    }
-    error(out, at, number, numbers::UNKNOWN_BURST)
+    let count = words.count;
+    let size = size_of(command, words.burst);
+    let mut bits = [0u8; 148];
+    call(
+        command,
+        words.burst,
+        words.tsc,
+        &figures[..count],
+        &mut bits[..size],
+        out,
+        at,
+    )
 }

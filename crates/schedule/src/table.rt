@@ -3,10 +3,10 @@ use crate::least;
 use crate::output::Output;
 use crate::output::ends_at;
 use crate::output::make_room;
+use crate::run::narrowed;
 use storage::WORDS;
 use tdma::cells;
 use text::numbers;
-use text::numbers::narrow;
 use text::print::put;
 use text::print::put_numbers;
 ghost use Prim.Native.Nat.{_≤_};
@@ -220,15 +220,13 @@ pub(crate) fn table(
     if taken.reason != 0 {
         return wrong(out, output, number, taken.reason);
     }
-    let tn = narrow(taken.values[0]);
-    let direction = narrow(taken.values[1]);
-    let frame = narrow(taken.values[2]);
-    let count = narrow(taken.values[3]);
-    if count > FRAMES {
+    let values = taken.values;
+    let a = narrowed(values);
+    if a.fourth > FRAMES {
         return wrong(out, output, number, numbers::COUNT_TOO_LARGE);
     }
-    if (tn > 7) | (direction > 1) | (frame >= FRAMES) {
+    if (a.first > 7) | (a.second > 1) | (a.third >= FRAMES) {
         return refused(out, output);
     }
-    show(cell, tn, direction, frame, count, out, output)
+    show(cell, a.first, a.second, a.third, a.fourth, out, output)
 }

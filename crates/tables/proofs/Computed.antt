@@ -86,7 +86,7 @@ controlRows : ℕ → List Row
 controlRows x = rowsOf (4 + x / 2) 0 (x % 2)
 
 control-tested : allBelow (λ (x : ℕ). allFrames holdsAll 102 (controlRows x)) 8 ≡ true
-unfolding holdsAll codeOf spreadOf standingNumbers controlRows allBelow repeats standing combinations rowsAmong uncombined combined additional sdcch8 numbered each from
+unfolding allFrames holdsAll codeOf spreadOf standingNumbers controlRows allBelow repeats standing combinations rowsAmong uncombined combined additional sdcch8 numbered each from
 control-tested = refl
 
 -- the digits of frame i of a word

@@ -1,11 +1,13 @@
 -- What the parts of a timetable read like, case by case. Assumes nothing.
-use Prim.Native.Nat.{ℕ, _≤_, _<_}
-use mathlib.Core.Path.{_≡_, _∙_}
+use Prim.Native.Nat.{ℕ, _-_, _≤_, _<_}
+use mathlib.Core.Path.{_≡_, ap, _∙_}
 use mathlib.Core.List.{_++_}
 use mathlib.Core.Logic.{_≢_}
+use lib.ListN.{length, replicate}
 use borrow.Author.Tests.{eq-eqb, ne-eqb, lt-ltb, le-ltb}
 use Rattle.wording.specs.Words.{ascii}
-use Rattle.wording.specs.Print.{decimal, right}
+use Rattle.wording.specs.Print.{decimal, right, left}
+use Rattle.wording.specs.Replies.{channelText}
 use Rattle.c_answers.specs.declared.TdmaLine.{TdmaLine}
 use Rattle.replies.proofs.Choices.{first, second}
 use Rattle.wording.specs.Table.{directionText, holderText, blockText, shownText, cellText}
@@ -17,6 +19,10 @@ downlink d h = first _ _ (eq-eqb d 0 h)
 pub uplink : (d : ℕ) → d ≢ 0 → directionText d ≡ ascii " uplink, "
 unfolding directionText
 uplink d h = second _ _ (ne-eqb d 0 h)
+
+-- a channel's name, and as many spaces as it lacks
+pub padded : (n w : ℕ) → w ≡ length (channelText n) → channelText n ++ replicate (5 - w) 32 ≡ left 5 (channelText n)
+padded n w h = ap (λ (k : ℕ). channelText n ++ replicate (5 - k) 32) h
 
 module _ (channel subchannel owner : ℕ) where
   pub common-part : 3 < channel → holderText channel subchannel owner ≡ ascii "-     -"

@@ -1,9 +1,12 @@
 // The parts of a timetable: its head, the titles of its columns, and in each row the frame and what each line has there.
 use c_answers::TdmaLine;
+use replies::channel;
+use replies::channel_width;
 use text::print::put;
 use text::print::put_left;
 use text::print::put_number;
 use text::print::put_right;
+use text::print::put_spaces;
 ghost use Rattle.wording.specs.Print.{Appended, left};
 ghost use Rattle.wording.specs.Replies.{channelText};
 ghost use Rattle.wording.specs.Table.{directionText, headText, titleText, frameText, holderText, blockText, cellText};
@@ -54,31 +57,8 @@ pub fn frame(out: &mut [u8], at: usize, number: u32, t1: u32, t2: u32, t3: u32) 
 fn kind(out: &mut [u8], at: usize, number: u32) -> usize
     ensures { λ r. ⌜ Appended (now (out .entry)) at (now (out .exit)) r (left 5 (channelText number)) ⌝ }
 {
-    if number == 1 {
-        return put(out, at, b"TCH  ");
-    }
-    if number == 2 {
-        return put(out, at, b"SACCH");
-    }
-    if number == 3 {
-        return put(out, at, b"SDCCH");
-    }
-    if number == 4 {
-        return put(out, at, b"FCCH ");
-    }
-    if number == 5 {
-        return put(out, at, b"SCH  ");
-    }
-    if number == 6 {
-        return put(out, at, b"BCCH ");
-    }
-    if number == 7 {
-        return put(out, at, b"CCCH ");
-    }
-    if number == 8 {
-        return put(out, at, b"RACH ");
-    }
-    put(out, at, b"     ")
+    let end = channel(out, at, number);
+    put_spaces(out, end, 5 - channel_width(number))
 }
 
 // The subchannel and its owner; a common part has neither.

@@ -1,5 +1,4 @@
 -- `input::turn` is safe. Assumes nothing.
-use mathlib.Core.Path.{_∙_}
 use native.Mathlib.Omega.{arith}
 use lib.ListN.{length-take}
 use borrow.Author.Needs.{needs}
@@ -45,21 +44,11 @@ same-length-5 c = search needs
 returns-2 : tie.Need-returns-2
 returns-2 c = search needs
 
-slice-reshare-prefix-all : tie.Need-slice-reshare-prefix-all
-slice-reshare-prefix-all c = search needs
-
-slice-aggregate-all : tie.Need-slice-aggregate-all
-slice-aggregate-all c = simp length-take (omega arith)
-
-all-requires : tie.Need-all-requires
-all-requires c κs = search needs
-
-rest-requires : tie.Need-rest-requires
-rest-requires c κs = search needs
+answered-requires : tie.Need-answered-requires
+answered-requires c κs = search needs
 
 same-length-6 : tie.Need-same-length-6
-same-length-6 c =
-    c .before .before .before .before .rest .kept .0 ∙ c .before .before .before .before .before .before .before .before .before .before .before .before .before .before .before .before .before .before .before .before .before .before .before .before .before .read-more .kept .1 .0
+same-length-6 c = search needs
 
 same-length-7 : tie.Need-same-length-7
 same-length-7 c = search needs
@@ -90,10 +79,7 @@ turn-spec =
     same-length-4
     same-length-5
     returns-2
-    slice-reshare-prefix-all
-    slice-aggregate-all
-    all-requires
-    rest-requires
+    answered-requires
     same-length-6
     same-length-7
     same-length-8

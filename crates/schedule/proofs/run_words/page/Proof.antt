@@ -1,0 +1,63 @@
+-- `run_words::page` is safe. Assumes nothing.
+use native.Mathlib.Omega.{arith}
+use lib.ListN.{length-take}
+use borrow.Author.Needs.{needs}
+use Rattle.schedule.proofs.run_words.page.Statement.{statement}
+use Rattle.schedule.proofs.run_words.page.Tie as tie
+
+imsi-and-frame-requires : tie.Need-imsi-and-frame-requires
+imsi-and-frame-requires c κs = search needs
+
+error-requires : tie.Need-error-requires
+error-requires c κs = search needs
+
+same-length : tie.Need-same-length
+same-length c = search needs
+
+same-length-2 : tie.Need-same-length-2
+same-length-2 c = search needs
+
+returns : tie.Need-returns
+returns c = search needs
+
+slice-reshare-prefix-tdma-page : tie.Need-slice-reshare-prefix-tdma-page
+slice-reshare-prefix-tdma-page c = search needs
+
+slice-aggregate-tdma-page : tie.Need-slice-aggregate-tdma-page
+slice-aggregate-tdma-page c = simp length-take (omega arith)
+
+tdma-page-requires : tie.Need-tdma-page-requires
+tdma-page-requires c κs = search needs
+
+slice-aggregate-numbers : tie.Need-slice-aggregate-numbers
+slice-aggregate-numbers c = search needs
+
+numbers-requires : tie.Need-numbers-requires
+numbers-requires c κs = search needs
+
+same-length-3 : tie.Need-same-length-3
+same-length-3 c = search needs
+
+same-length-4 : tie.Need-same-length-4
+same-length-4 c = search needs
+
+returns-2 : tie.Need-returns-2
+returns-2 c = search needs
+
+pub page-spec : {M : Type 1} → statement M
+page-spec =
+    tie.close
+    (tie.spec
+    imsi-and-frame-requires
+    error-requires
+    same-length
+    same-length-2
+    returns
+    slice-reshare-prefix-tdma-page
+    slice-aggregate-tdma-page
+    tdma-page-requires
+    slice-aggregate-numbers
+    numbers-requires
+    same-length-3
+    same-length-4
+    returns-2)
