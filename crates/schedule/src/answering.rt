@@ -57,7 +57,6 @@ fn answer(
     line: &[u8],
     number: u64,
     list: &mut [u16],
-    figures: &mut [u8],
     out: &mut [u8],
     output: Output,
 ) -> Output {
@@ -75,7 +74,6 @@ fn answer(
         command.end,
         number,
         list,
-        figures,
         out,
         output.at,
     );
@@ -100,7 +98,6 @@ pub(crate) fn one(
     state: State,
     shown: bool,
     list: &mut [u16],
-    figures: &mut [u8],
     out: &mut [u8],
 ) -> State {
     let output = state.output;
@@ -114,7 +111,7 @@ pub(crate) fn one(
     let number = following(state.number);
     let output = make_room(out, output);
     let output = show(line, shown, out, output);
-    let output = answer(cell, line, number, list, figures, out, output);
+    let output = answer(cell, line, number, list, out, output);
     State {
         number,
         long: false,
@@ -135,14 +132,13 @@ pub(crate) fn all(
     state: State,
     shown: bool,
     list: &mut [u16],
-    figures: &mut [u8],
     out: &mut [u8],
 ) -> Lines {
     let mut state = state;
     let mut from = 0;
     let mut end = find(text, 0, b'\n');
     while end < text.len() {
-        state = one(cell, &text[from..end], state, shown, list, figures, out);
+        state = one(cell, &text[from..end], state, shown, list, out);
         from = end + 1;
         end = find(text, from, b'\n');
     }

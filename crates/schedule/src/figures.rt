@@ -5,6 +5,9 @@ use text::words::next_word;
 ghost use Prim.Native.Nat.{_≤_};
 ghost use lib.ListN.{length};
 
+// More than any IMSI or burst has: of a longer word only so many are kept, and it is refused for its length all the same.
+pub(crate) const MOST: usize = 256;
+
 // How many figures there are, and where the word ends; or the reason, if `reason` is not 0.
 pub(crate) struct Figures {
     pub(crate) reason: u32,

@@ -6,14 +6,14 @@ use crate::output;
 use replies::error;
 use storage::WORDS;
 use text::numbers::LINE_TOO_LONG;
-ghost use Prim.Native.Nat.{_≤_};
-ghost use lib.ListN.{length};
 
 struct Input {
     // How many bytes at the start of the buffer wait: a line that has no end yet.
     filled: usize,
     // There may be more.
     more: bool,
+    // It could not be read.
+    failed: bool,
     state: State,
 }
 
@@ -34,14 +34,16 @@ fn paused(filled: usize, out: &[u8], state: State) -> Input {
     Input {
         filled,
         more: !output.failed,
+        failed: false,
         state,
     }
 }
 
-fn ended(state: State) -> Input {
+fn ended(state: State, failed: bool) -> Input {
     Input {
         filled: 0,
         more: false,
+        failed,
         state,
     }
 }
@@ -92,37 +94,40 @@ fn rest(buffer: &mut [u8], from: usize, filled: usize, out: &mut [u8], state: St
     paused(0, out, state)
 }
 
-// The input has ended: what waits is the last line.
-fn last(
-    cell: &mut [u32; WORDS],
-    line: &[u8],
-    state: State,
-    list: &mut [u16],
-    figures: &mut [u8],
-    out: &mut [u8],
-) -> Input {
-    if line.len() == 0 {
-        return ended(state);
-    }
-    let state = answering::one(cell, line, state, false, list, figures, out);
-    ended(flushed(out, state))
-}
-
-// Whether a read could be made, and how far the buffer is filled then.
+// How far the buffer is filled after a read, and whether there may be more to read; or the read failed.
 struct Fill {
     failed: bool,
+    more: bool,
     filled: usize,
 }
 
+// The input has ended, and so does the line that waits.
+fn end_line(buffer: &mut [u8], filled: usize) -> usize {
+    if filled >= buffer.len() {
+        return buffer.len();
+    }
+    if filled == 0 {
+        return 0;
+    }
+    buffer[filled] = b'\n';
+    filled + 1
+}
+
 // One read, into what of the buffer is free.
-fn read_more(fd: i32, buffer: &mut [u8], waiting: usize) -> Fill
-    ensures { λ r. ⌜ r .filled ≤ length (now (buffer .exit)) ⌝ }
-{
+fn read_more(fd: i32, buffer: &mut [u8], waiting: usize) -> Fill {
     let start = least(waiting, buffer.len());
     let got = libc::read(fd, &mut buffer[start..]);
     let n = io::count(got, &buffer[start..]);
+    if n == 0 {
+        return Fill {
+            failed: got < 0,
+            more: false,
+            filled: end_line(buffer, start),
+        };
+    }
     Fill {
-        failed: got < 0,
+        failed: false,
+        more: true,
         filled: start + n,
     }
 }
@@ -134,52 +139,49 @@ fn answered(
     state: State,
     cell: &mut [u32; WORDS],
     list: &mut [u16],
-    figures: &mut [u8],
     out: &mut [u8],
 ) -> Input {
     let end = least(filled, buffer.len());
-    let lines = answering::all(cell, &buffer[..end], state, false, list, figures, out);
+    let lines = answering::all(cell, &buffer[..end], state, false, list, out);
     let state = lines.state;
     rest(buffer, lines.end, filled, out, state)
 }
 
-// One read, and the answers to all lines that are whole then.
+// One read, and the answers to all lines that are whole then. A read that fails ends the input, and its line is not answered.
 fn turn(
     fd: i32,
-    path: &[u8],
     buffer: &mut [u8],
     input: Input,
     cell: &mut [u32; WORDS],
     list: &mut [u16],
-    figures: &mut [u8],
     out: &mut [u8],
 ) -> Input {
     let state = input.state;
     let fill = read_more(fd, buffer, input.filled);
     if fill.failed {
-        os::fail(path);
-        return ended(state);
+        return ended(state, true);
     }
-    let filled = fill.filled;
-    if filled == input.filled {
-        return last(cell, &buffer[..filled], state, list, figures, out);
+    let next = answered(buffer, fill.filled, state, cell, list, out);
+    if fill.more {
+        return next;
     }
-    answered(buffer, filled, state, cell, list, figures, out)
+    let state = next.state;
+    ended(state, false)
 }
 
-// Reads to the end. A loop has to end, and nothing says that the input does: it counts its turns down from a number that no run uses up.
+// Reads to the end, and answers whether the input could be read. A loop has to end, and nothing says that the input does: it counts its turns down
+// from a number that no run uses up.
 pub(crate) fn read_all(
     fd: i32,
-    path: &[u8],
     buffer: &mut [u8],
     cell: &mut [u32; WORDS],
     list: &mut [u16],
-    figures: &mut [u8],
     out: &mut [u8],
-) {
+) -> bool {
     let mut input = Input {
         filled: 0,
         more: true,
+        failed: false,
         state: State {
             number: 0,
             long: false,
@@ -188,7 +190,8 @@ pub(crate) fn read_all(
     };
     let mut turns = u64::MAX;
     while turns > 0 && input.more {
-        input = turn(fd, path, buffer, input, cell, list, figures, out);
+        input = turn(fd, buffer, input, cell, list, out);
         turns -= 1;
     }
+    !input.failed
 }

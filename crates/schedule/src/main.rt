@@ -33,29 +33,19 @@ fn no_cell() -> [u32; WORDS] {
 }
 
 // Answers the commands of an open file. A line of less than 65,536 bytes has room in each buffer, and so have its numbers.
-fn answer_all(fd: i32, path: &[u8]) {
+fn answer_all(fd: i32) -> bool {
     let mut cell = no_cell();
     let mut list = [0u16; 32768];
-    let mut figures = [0u8; 65536];
     let mut out = [0u8; 65536];
     let mut buffer = [0u8; 65536];
-    input::read_all(
-        fd,
-        path,
-        &mut buffer,
-        &mut cell,
-        &mut list,
-        &mut figures,
-        &mut out,
-    );
+    input::read_all(fd, &mut buffer, &mut cell, &mut list, &mut out)
 }
 
-fn answer_plan() {
-    let mut cell = no_cell();
-    let mut list = [0u16; 64];
-    let mut figures = [0u8; 64];
-    let mut out = [0u8; 65536];
-    plan::run(&mut cell, &mut list, &mut figures, &mut out);
+// The same, and tells of a file that could not be read.
+fn answer_from(fd: i32, path: &[u8]) {
+    if !answer_all(fd) {
+        os::fail(path);
+    }
 }
 
 fn answer_file(path: &[u8]) {
@@ -63,21 +53,21 @@ fn answer_file(path: &[u8]) {
         return help::print();
     }
     if same(path, b"-") {
-        return answer_all(libc::STDIN_FILENO, b"standard input");
+        return answer_from(libc::STDIN_FILENO, b"standard input");
     }
     let fd = os::open_read(path);
     if fd < 0 {
         os::fail(path);
         return;
     }
-    answer_all(fd, path);
+    answer_from(fd, path);
     libc::close(fd);
 }
 
 fn main() {
     let count = os::arg_count();
     if count < 2 {
-        return answer_plan();
+        return plan::run();
     }
     if count > 2 {
         io::write_all(

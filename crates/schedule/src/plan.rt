@@ -1,19 +1,20 @@
 // The plan that is built in: commands, each shown before its answer.
 use crate::answering;
-use crate::answering::Lines;
 use crate::answering::State;
+use crate::no_cell;
 use crate::output;
-use storage::WORDS;
 
-fn script(
-    cell: &mut [u32; WORDS],
-    state: State,
-    list: &mut [u16],
-    figures: &mut [u8],
-    out: &mut [u8],
-) -> Lines {
-    answering::all(
-        cell,
+pub(crate) fn run() {
+    let mut cell = no_cell();
+    let mut list = [0u16; 64];
+    let mut out = [0u8; 65536];
+    let state = State {
+        number: 0,
+        long: false,
+        output: output::nothing(),
+    };
+    let lines = answering::all(
+        &mut cell,
         b"# Six ARFCNs, C0 is 10, BCC 3; one block of access grants, five multiframes of paging.
 start 10 3 1 5 10 20 30 40 50 60
 # Line 0: the combined common channels.
@@ -39,20 +40,10 @@ table 2 0 0 52
 ",
         state,
         true,
-        list,
-        figures,
-        out,
-    )
-}
-
-pub(crate) fn run(cell: &mut [u32; WORDS], list: &mut [u16], figures: &mut [u8], out: &mut [u8]) {
-    let state = State {
-        number: 0,
-        long: false,
-        output: output::nothing(),
-    };
-    let lines = script(cell, state, list, figures, out);
+        &mut list,
+        &mut out,
+    );
     let state = lines.state;
     let output = state.output;
-    output::flush(out, output);
+    output::flush(&out, output);
 }

@@ -132,8 +132,8 @@ fn of_numbers(
     with_cell(cell, command, a, out, at)
 }
 
-// The answer to a command, by its number in the crate `commands`. `from`: where its word ends. `number`: the line's, for an error. `list` and `figures` are lent
-// to work in, and have room for all numbers and characters of the line.
+// The answer to a command, by its number in the crate `commands`. `from`: where its word ends. `number`: the line's, for an error. `list` is lent to work in,
+// and has room for all numbers of the line.
 pub(crate) fn answer(
     cell: &mut [u32; WORDS],
     command: u32,
@@ -141,7 +141,6 @@ pub(crate) fn answer(
     from: usize,
     number: u64,
     list: &mut [u16],
-    figures: &mut [u8],
     out: &mut [u8],
     at: usize,
 ) -> usize {
@@ -152,10 +151,10 @@ pub(crate) fn answer(
         return run_words::of_list(cell, command, line, from, number, list, out, at);
     }
     if command == commands::PAGE {
-        return run_words::page(cell, line, from, number, figures, out, at);
+        return run_words::page(cell, line, from, number, out, at);
     }
     if (command == commands::BUILD) | (command == commands::TAKE) {
-        return run_bursts::of_burst(command, line, from, number, figures, out, at);
+        return run_bursts::of_burst(command, line, from, number, out, at);
     }
     of_numbers(cell, command, line, from, number, out, at)
 }

@@ -1,4 +1,5 @@
 // The commands `build` and `take`, as run.rt has the others: the second word names the burst.
+use crate::figures::MOST;
 use crate::figures::extra;
 use crate::figures::last_figures;
 use c_answers::TdmaAnswer;
@@ -182,11 +183,11 @@ pub(crate) fn of_burst(
     line: &[u8],
     from: usize,
     number: u64,
-    figures: &mut [u8],
     out: &mut [u8],
     at: usize,
 ) -> usize {
-    let words = given(line, from, command, figures);
+    let mut figures = [0u8; MOST];
+    let words = given(line, from, command, &mut figures);
     if words.reason != 0 {
         return error(out, at, number, words.reason);
     }

@@ -1,4 +1,5 @@
 // The commands that have a list of ARFCNs or an IMSI, as run.rt has the others.
+use crate::figures::MOST;
 use crate::figures::next_figures;
 use replies::error;
 use storage::WORDS;
@@ -116,11 +117,11 @@ pub(crate) fn page(
     line: &[u8],
     from: usize,
     number: u64,
-    figures: &mut [u8],
     out: &mut [u8],
     at: usize,
 ) -> usize {
-    let words = imsi_and_frame(line, from, figures);
+    let mut figures = [0u8; MOST];
+    let words = imsi_and_frame(line, from, &mut figures);
     if words.reason != 0 {
         return error(out, at, number, words.reason);
     }

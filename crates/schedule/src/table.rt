@@ -204,8 +204,15 @@ fn refused(out: &mut [u8], output: Output) -> Output {
     ends_at(output, replies::numbers(out, output.at, 3, 0, &[]))
 }
 
-fn wrong(out: &mut [u8], output: Output, number: u64, reason: u32) -> Output {
-    ends_at(output, replies::error(out, output.at, number, reason))
+// Why the line is no command, 0 if it is one.
+fn wrong(reason: u32, count: u32) -> u32 {
+    if reason != 0 {
+        return reason;
+    }
+    if count > FRAMES {
+        return numbers::COUNT_TOO_LARGE;
+    }
+    0
 }
 
 pub(crate) fn table(
@@ -217,13 +224,11 @@ pub(crate) fn table(
     output: Output,
 ) -> Output {
     let taken = numbers::only(line, from, 4);
-    if taken.reason != 0 {
-        return wrong(out, output, number, taken.reason);
-    }
     let values = taken.values;
     let a = narrowed(values);
-    if a.fourth > FRAMES {
-        return wrong(out, output, number, numbers::COUNT_TOO_LARGE);
+    let reason = wrong(taken.reason, a.fourth);
+    if reason != 0 {
+        return ends_at(output, replies::error(out, output.at, number, reason));
     }
     if (a.first > 7) | (a.second > 1) | (a.third >= FRAMES) {
         return refused(out, output);

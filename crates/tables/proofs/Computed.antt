@@ -110,6 +110,7 @@ module _ (c d : ℕ) (hc : 3 < c) (he : c < 8) (hd : d < 2) where
   held fn = every-frame holdsAll 102 (rowsOf c 0 d) tested fn
 
   repeating : repeats 102 (rowsOf c 0 d) ≡ true
+  unfolding allFrames
   repeating =
       and-left (repeats 102 (rowsOf c 0 d)) _
       (and-right (ltb 0 102) (repeats 102 (rowsOf c 0 d) && allBelow (λ (f : ℕ). holdsAll (standing (rowsOf c 0 d) f)) 102) tested)

@@ -7,10 +7,10 @@ use Rattle.schedule.proofs.answering.all.Statement.{statement}
 use Rattle.schedule.proofs.answering.all.Tie as tie
 
 abbrev Inv-loop : tie.InvT-loop
-Inv-loop cell₀ text shown list₀ figures₀ out₀ state₀ from₀ end₀ cell list figures out state from end = (from ≤ end) × (length list ≡ length list₀) × (length figures ≡ length figures₀) × (length out ≡ length out₀)
+Inv-loop cell₀ text shown list₀ out₀ state₀ from₀ end₀ cell list out state from end = (from ≤ end) × (length list ≡ length list₀) × (length out ≡ length out₀)
 
 abbrev μ-loop : tie.MeasureT-loop
-μ-loop cell₀ text shown list₀ figures₀ out₀ state₀ from₀ end₀ cell list figures out state from end = length text - end
+μ-loop cell₀ text shown list₀ out₀ state₀ from₀ end₀ cell list out state from end = length text - end
 
 find-requires : tie.Need-find-requires Inv-loop μ-loop
 find-requires c κs = search needs
@@ -48,9 +48,6 @@ same-length c = search needs
 same-length-2 : tie.Need-same-length-2 Inv-loop μ-loop
 same-length-2 c = search needs
 
-same-length-3 : tie.Need-same-length-3 Inv-loop μ-loop
-same-length-3 c = search needs
-
 returns : tie.Need-returns Inv-loop μ-loop
 returns c = search needs
 
@@ -72,5 +69,4 @@ all-spec =
     loop-again
     same-length
     same-length-2
-    same-length-3
     returns)

@@ -7,11 +7,11 @@ use Rattle.schedule.proofs.input.read_all.Statement.{statement}
 use Rattle.schedule.proofs.input.read_all.Tie as tie
 
 abbrev Inv-loop : tie.InvT-loop
-Inv-loop fd path buffer₀ cell₀ list₀ figures₀ out₀ input₀ turns₀ buffer cell list figures out input turns =
-    (length buffer ≡ length buffer₀) × (length list ≡ length list₀) × (length figures ≡ length figures₀) × (length out ≡ length out₀)
+Inv-loop fd buffer₀ cell₀ list₀ out₀ input₀ turns₀ buffer cell list out input turns =
+    (length buffer ≡ length buffer₀) × (length list ≡ length list₀) × (length out ≡ length out₀)
 
 abbrev μ-loop : tie.MeasureT-loop
-μ-loop fd path buffer₀ cell₀ list₀ figures₀ out₀ input₀ turns₀ buffer cell list figures out input turns = turns
+μ-loop fd buffer₀ cell₀ list₀ out₀ input₀ turns₀ buffer cell list out input turns = turns
 
 nothing-requires : tie.Need-nothing-requires Inv-loop μ-loop
 nothing-requires c κs = search needs
@@ -40,26 +40,8 @@ same-length-2 c = search needs
 same-length-3 : tie.Need-same-length-3 Inv-loop μ-loop
 same-length-3 c = search needs
 
-same-length-4 : tie.Need-same-length-4 Inv-loop μ-loop
-same-length-4 c = search needs
-
 returns : tie.Need-returns Inv-loop μ-loop
 returns c = search needs
-
-same-length-5 : tie.Need-same-length-5 Inv-loop μ-loop
-same-length-5 c = search needs
-
-same-length-6 : tie.Need-same-length-6 Inv-loop μ-loop
-same-length-6 c = search needs
-
-same-length-7 : tie.Need-same-length-7 Inv-loop μ-loop
-same-length-7 c = search needs
-
-same-length-8 : tie.Need-same-length-8 Inv-loop μ-loop
-same-length-8 c = search needs
-
-returns-2 : tie.Need-returns-2 Inv-loop μ-loop
-returns-2 c = search needs
 
 pub read-all-spec : {M : Type 1} → statement M
 read-all-spec =
@@ -76,10 +58,4 @@ read-all-spec =
     same-length
     same-length-2
     same-length-3
-    same-length-4
-    returns
-    same-length-5
-    same-length-6
-    same-length-7
-    same-length-8
-    returns-2)
+    returns)

@@ -5,6 +5,9 @@ use borrow.Author.Needs.{needs}
 use Rattle.schedule.proofs.run_words.page.Statement.{statement}
 use Rattle.schedule.proofs.run_words.page.Tie as tie
 
+slice-aggregate-imsi-and-frame : tie.Need-slice-aggregate-imsi-and-frame
+slice-aggregate-imsi-and-frame c = search needs
+
 imsi-and-frame-requires : tie.Need-imsi-and-frame-requires
 imsi-and-frame-requires c κs = search needs
 
@@ -14,14 +17,11 @@ error-requires c κs = search needs
 same-length : tie.Need-same-length
 same-length c = search needs
 
-same-length-2 : tie.Need-same-length-2
-same-length-2 c = search needs
-
 returns : tie.Need-returns
 returns c = search needs
 
-slice-reshare-prefix-tdma-page : tie.Need-slice-reshare-prefix-tdma-page
-slice-reshare-prefix-tdma-page c = search needs
+array-share-prefix-figures : tie.Need-array-share-prefix-figures
+array-share-prefix-figures c = search needs
 
 slice-aggregate-tdma-page : tie.Need-slice-aggregate-tdma-page
 slice-aggregate-tdma-page c = simp length-take (omega arith)
@@ -35,11 +35,8 @@ slice-aggregate-numbers c = search needs
 numbers-requires : tie.Need-numbers-requires
 numbers-requires c κs = search needs
 
-same-length-3 : tie.Need-same-length-3
-same-length-3 c = search needs
-
-same-length-4 : tie.Need-same-length-4
-same-length-4 c = search needs
+same-length-2 : tie.Need-same-length-2
+same-length-2 c = search needs
 
 returns-2 : tie.Need-returns-2
 returns-2 c = search needs
@@ -48,16 +45,15 @@ pub page-spec : {M : Type 1} → statement M
 page-spec =
     tie.close
     (tie.spec
+    slice-aggregate-imsi-and-frame
     imsi-and-frame-requires
     error-requires
     same-length
-    same-length-2
     returns
-    slice-reshare-prefix-tdma-page
+    array-share-prefix-figures
     slice-aggregate-tdma-page
     tdma-page-requires
     slice-aggregate-numbers
     numbers-requires
-    same-length-3
-    same-length-4
+    same-length-2
     returns-2)
