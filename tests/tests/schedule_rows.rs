@@ -454,6 +454,31 @@ fn errors_of_bursts() {
     ask(ERRORS_OF_BURSTS);
 }
 
+/// Words of figures around the 256 that the program keeps, at 256 more than each right length, and
+/// far beyond: refused for their length, whatever stands in what is not kept.
+#[test]
+fn words_longer_than_any() {
+    let mut rows = vec![
+        made("start 10 0 1 5 10 20 30 40", "ok"),
+        made("open 0 0 1 0 0 4 0", "ok"),
+    ];
+    let more_than_right = [15, 36, 78, 88, 116, 148].map(|right| right + 256);
+    for length in [149, 255, 256, 257, 60_000]
+        .into_iter()
+        .chain(more_than_right)
+    {
+        for word in [zeros(length), format!("{}x", zeros(length - 1))] {
+            rows.push(made(format!("page {word} 0"), "refused 3"));
+            for bits in ["normal 0", "sync", "access"] {
+                rows.push(made(format!("build {bits} {word}"), "refused 14"));
+                rows.push(made(format!("take {bits} {word}"), "refused 14"));
+            }
+            rows.push(made(format!("build normal 8 {word}"), "refused 3"));
+        }
+    }
+    ask_made(&rows);
+}
+
 #[rustfmt::skip]
 const ERRORS: &[Row] = &[
     ("help", "error 1 unknown command"),
