@@ -1,7 +1,7 @@
 -- `paging::block_for` meets its contract: G is I mod n, the TN is twice (I div n) mod K, and `first_frame` finds the phone's first frame.
 -- Assumes nothing.
 use Prim.Native.Nat.{ℕ, _+_, _*_, _/_, _%_, _≤_, _<_}
-use mathlib.Core.Path.{_≡_, sym, ap, _∙_, subst}
+use mathlib.Core.Path.{_≡_, sym, ap, _∙_, subst, fun-ext}
 use mathlib.Core.Bool.{Bool, true, false, cond}
 use native.Mathlib.Nat.{mod-le, mod-lt, div-le-self, mul-le-mul}
 use native.Mathlib.Omega.{arith}
@@ -9,12 +9,14 @@ use lib.Dec.{eqb}
 use lib.ListN.{getD}
 use borrow.Author.Needs.{needs}
 use borrow.Author.Tests.{eq-eqb, ne-eqb}
+use Rattle.answers.specs.Search.{least}
 use Rattle.clock.specs.Clock.{hyperframe}
-use Rattle.paging.specs.declared.PagingBlock.{PagingBlock}
-use Rattle.paging.specs.Helpers.{starts, firstHit}
-use Rattle.paging.specs.Paging.{Common, A, n, r, timeslot, block, later, wait, blockFor}
-use Rattle.paging.proofs.FirstBlock.{first-frame}
-use Rattle.paging.proofs.Group.{factors, remainder-divided, group, turn}
+use Rattle.groups.specs.declared.PagingBlock.{PagingBlock}
+use Rattle.groups.specs.Frames.{starts}
+use Rattle.groups.specs.Paging.{Common, A, n, r, timeslot, G, block, later, wait, blockFor}
+use Rattle.groups.proofs.Group.{factors, remainder-divided, group, turn}
+use Rattle.groups.proofs.PagedFrames.{paged-frames}
+use Rattle.paging.specs.Helpers.{firstHit}
 use Rattle.paging.proofs.block_for.Statement.{statement}
 use Rattle.paging.proofs.block_for.Tie as tie
 
@@ -35,11 +37,16 @@ module _ (c : Common) (i fn : ℕ) where
   no-group : n c ≡ 0 → record { tn = 0; block = 0; frame = 0 } ≡ blockFor c i fn
   no-group e = sym (chosen true (eq-eqb (n c) 0 e))
 
-  module _ (hn : 0 < n c) (hk : 0 < c .K) (hi : i < 1000) (hf : fn < hyperframe) where
-    answer : made c fn (i % n c) (i / n c % c .K) ≡ blockFor c i fn
-    answer =
+  module _ (hn : 0 < n c) where
+    -- what the code computes is the phone's first frame: both tests are the same
+    first-frame : later fn (wait c i fn) ≡ firstHit (c .P) (G c i / A c) (getD starts (block c i) 0) fn
+    unfolding wait firstHit
+    first-frame = ap (λ (test : ℕ → Bool). later fn (least (λ d. test (later fn d)) hyperframe 0)) (fun-ext (paged-frames c i hn))
+
+    answer : 0 < c .K → made c fn (i % n c) (i / n c % c .K) ≡ blockFor c i fn
+    answer hk =
         sym (chosen false (ne-eqb (n c) 0 (λ e. omega arith))
-        ∙ (ap (λ (f : ℕ). record { tn = timeslot c i; block = block c i; frame = f }) (first-frame c i fn hn hi hf)
+        ∙ (ap (λ (f : ℕ). record { tn = timeslot c i; block = block c i; frame = f }) first-frame
         ∙ (ap (λ (g : ℕ). made c fn g (r c i / n c)) (group c i hn) ∙ ap (made c fn (i % n c)) (turn c i hn hk))))
 
 -- n is positive from the test on
@@ -127,7 +134,7 @@ returns-2 : tie.Need-returns-2
 unfolding common
 returns-2 c =
     let x = c .before .before .before .before .before .before .before .before .args in
-    cc (answer (common (c .before .before .before .before)) (x .i) (x .number) (some-groups (c .before .before .before .before)) (search needs) (search needs) (search needs))
+    cc (answer (common (c .before .before .before .before)) (x .i) (x .number) (some-groups (c .before .before .before .before)) (search needs))
 
 pub block-for-spec : {M : Type 1} → statement M
 block-for-spec =

@@ -3,8 +3,9 @@ use Prim.Native.Nat.{ℕ, _+_, _*_, _≤_, _<_}
 use mathlib.Core.Path.{_≡_, sym}
 use native.Mathlib.Omega.{arith}
 use Rattle.clock.specs.Clock.{hyperframe}
-use Rattle.paging.specs.Helpers.{isHit, firstHit}
-use Rattle.paging.proofs.FirstHit.{multiframe, Lands, lands-least, hit-next, hit-past}
+use Rattle.groups.specs.Frames.{isHit}
+use Rattle.groups.proofs.FirstHit.{multiframe, Lands, lands-least, hit-next, hit-past}
+use Rattle.paging.specs.Helpers.{firstHit}
 use borrow.Author.Needs.{needs}
 use Rattle.paging.proofs.first_frame.Statement.{statement}
 use Rattle.paging.proofs.first_frame.Tie as tie
