@@ -1,7 +1,7 @@
 -- `paging::block_for` meets its contract: G is I mod n, the TN is twice (I div n) mod K, and `first_frame` finds the phone's first frame.
 -- Assumes nothing.
 use Prim.Native.Nat.{ℕ, _+_, _*_, _/_, _%_, _≤_, _<_}
-use mathlib.Core.Path.{_≡_, sym, ap, _∙_, subst, fun-ext}
+use mathlib.Core.Path.{_≡_, sym, ap, ap₂, _∙_, subst, fun-ext}
 use mathlib.Core.Bool.{Bool, true, false, cond}
 use native.Mathlib.Nat.{mod-le, mod-lt, div-le-self, mul-le-mul}
 use native.Mathlib.Omega.{arith}
@@ -49,6 +49,18 @@ module _ (c : Common) (i fn : ℕ) where
         ∙ (ap (λ (f : ℕ). record { tn = timeslot c i; block = block c i; frame = f }) first-frame
         ∙ (ap (λ (g : ℕ). made c fn g (r c i / n c)) (group c i hn) ∙ ap (made c fn (i % n c)) (turn c i hn hk))))
 
+-- the same of the numbers that the code has, widened
+widened : (c : Common) (fn i a m w v s f : ℕ) → a ≡ A c → m ≡ n c → w ≡ i → v ≡ i → s ≡ getD starts (c .AG + w % m % a) 0 → f ≡ firstHit (c .P) (w % m / a) s fn
+    → record { tn = 2 * (v / m % c .K); block = c .AG + w % m % a; frame = f } ≡ made c fn (i % n c) (i / n c % c .K)
+widened c fn i a m w v s f ea em ew ev es ef = cc
+
+common : (c : tie.After-wide2) → Common
+common c = let x = c .before .before .before .args in record { K = x .lines; combined = x .combined; AG = x .ag; P = x .p }
+
+product : (c : tie.After-wide2) → c .before .wide .result * c .wide2 .result ≡ n (common c)
+unfolding common
+product c = ap₂ _*_ (c .before .wide .ensures ∙ c .before .before .paging-blocks .ensures) (c .wide2 .ensures)
+
 -- n is positive from the test on
 positive : (c : tie.Else1) → 0 < c .before .before .wide .result * c .before .wide2 .result
 positive c = omega arith
@@ -56,12 +68,8 @@ positive c = omega arith
 some-blocks : (c : tie.Else1) → 0 < c .before .before .before .paging-blocks .result
 some-blocks c = omega (arith, factors _ _ (positive c) .0)
 
-common : (c : tie.Else1) → Common
-common c = let x = c .before .before .before .before .args in record { K = x .lines; combined = x .combined; AG = x .ag; P = x .p }
-
-some-groups : (c : tie.Else1) → 0 < n (common c)
-unfolding common
-some-groups c = subst (λ (k : ℕ). 0 < k) (cc) (positive c)
+some-groups : (c : tie.Else1) → 0 < n (common (c .before))
+some-groups c = subst (λ (k : ℕ). 0 < k) (product (c .before)) (positive c)
 
 paging-blocks-requires : tie.Need-paging-blocks-requires
 paging-blocks-requires c κs = search needs
@@ -77,7 +85,8 @@ mul-n c =
     omega (arith, mul-le-mul {n₁ = c .before .wide .result} {m₁ = c .wide2 .result} {n₂ = 9} {m₂ = 4294967295} (omega (arith, at-most-9 (c .before .before .before .args .combined))) (omega arith))
 
 returns : tie.Need-returns
-returns c = no-group _ _ _ (cc)
+unfolding common
+returns c = no-group (common (c .before)) _ _ (sym (product (c .before)) ∙ c .if1 .taken)
 
 wide-requires-3 : tie.Need-wide-requires-3
 wide-requires-3 c κs = search needs
@@ -134,7 +143,9 @@ returns-2 : tie.Need-returns-2
 unfolding common
 returns-2 c =
     let x = c .before .before .before .before .before .before .before .before .args in
-    cc (answer (common (c .before .before .before .before)) (x .i) (x .number) (some-groups (c .before .before .before .before)) (search needs))
+    let k = c .before .before .before .before in
+    widened (common (k .before)) (x .number) (x .i) _ _ _ _ _ _ (k .before .before .before .paging-blocks .ensures) (product (k .before)) (c .before .before .before .wide3 .ensures) (c .before .before .wide4 .ensures) (c .before .start .ensures .0) (c .first-frame .ensures)
+    ∙ answer (common (k .before)) (x .i) (x .number) (some-groups k) (search needs)
 
 pub block-for-spec : {M : Type 1} → statement M
 block-for-spec =
