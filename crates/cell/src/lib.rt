@@ -36,7 +36,7 @@ ghost use Rattle.rules.specs.Calls.{openRange, refusedCell, startOf, openOf, cl
 ghost use Rattle.cell.specs.Helpers.{passOf};
 ghost use Rattle.rules.specs.Paging.{pageOf};
 ghost use Rattle.storage.specs.Words.{cellOf};
-ghost use Rattle.paging.specs.Paging.{paged};
+ghost use Rattle.paging.specs.Answers.{paged};
 
 // Refused, start leaves the cell of ARFCN 0.
 fn refuse_start(cell: &mut [u32; WORDS], refusal: Refusal) -> Answer

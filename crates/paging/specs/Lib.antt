@@ -1,2 +1,2 @@
 pub mod Helpers
-pub mod Paging
+pub mod Answers

@@ -1,19 +1,15 @@
 // Where and when a phone is paged, on plain numbers: document 01, "Paging (6.5.2, 6.5.3)".
 use answers::Refusal;
 use clock::Frame;
+use groups::PagingBlock;
 ghost use mathlib.Core.Bool.{cond};
 ghost use mathlib.Core.Path.{_≡_};
 ghost use Prim.Native.Nat.{_+_, _-_, _%_, _<_, _≤_};
 ghost use lib.ListN.{length, getD};
-ghost use Rattle.paging.specs.Helpers.{starts, firstHit};
-ghost use Rattle.paging.specs.Paging.{lastThree, isImsi, blockFor, pagingOf, paged};
-
-// A phone's block: its timeslot, its CCCH block, and the first frame of that.
-pub struct PagingBlock {
-    pub tn: u32,
-    pub block: u32,
-    pub frame: u32,
-}
+ghost use Rattle.groups.specs.Frames.{starts};
+ghost use Rattle.groups.specs.Paging.{lastThree, isImsi, blockFor, pagingOf};
+ghost use Rattle.paging.specs.Answers.{paged};
+ghost use Rattle.paging.specs.Helpers.{firstHit};
 
 pub enum Paged {
     Block(PagingBlock),

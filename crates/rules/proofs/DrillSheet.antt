@@ -14,8 +14,8 @@ use Rattle.hops.specs.Clash.{clash}
 use Rattle.maps.specs.Rows.{numbered, each, from, standing}
 use Rattle.maps.specs.Combinations.{fullRate, halfRate, uncombined, combined, additional, sdcch8, combinations, among, rowsAmong, rowsOf, isCombination}
 use Rattle.maps.specs.Map.{mapOf}
-use Rattle.paging.specs.Paging.{pagingOf}
-use Rattle.paging.proofs.Drill.{one-line, drill}
+use Rattle.groups.specs.Paging.{pagingOf}
+use Rattle.groups.proofs.Drill.{one-line, drill}
 use Rattle.rules.specs.State.{tabulate, closedLine, empty}
 use Rattle.rules.specs.Calls.{startOf, openOf, seizeOf}
 use Rattle.rules.specs.OnAir.{ownerOf, slotOf, lineOf}

@@ -16,13 +16,13 @@ use Rattle.clock.specs.Clock.{hyperframe}
 use Rattle.maps.specs.Combinations.{rowsOf}
 use Rattle.maps.specs.Map.{mapOf}
 use Rattle.maps.specs.Rows.{standing}
-use Rattle.paging.specs.declared.PagingBlock.{PagingBlock}
-use Rattle.paging.specs.Paging.{Common, lastThree, n, r, timeslot, isMultiframe, block, commonIn, isPaged, later, wait, blockFor, isImsi, pagingCauses, pagingOf}
-use Rattle.paging.proofs.BlockFrames.{start-below}
-use Rattle.paging.proofs.FirstBlock.{FirstBlock, first, past-turn}
-use Rattle.paging.proofs.Group.{turn-below}
-use Rattle.paging.proofs.Imsi.{last-three-below}
-use Rattle.paging.proofs.PagedFrames.{stands-alone, in-map}
+use Rattle.groups.specs.declared.PagingBlock.{PagingBlock}
+use Rattle.groups.specs.Paging.{Common, lastThree, n, r, timeslot, isMultiframe, block, commonIn, isPaged, later, wait, blockFor, isImsi, pagingCauses, pagingOf}
+use Rattle.groups.proofs.BlockFrames.{start-below}
+use Rattle.groups.proofs.FirstBlock.{FirstBlock, first, past-turn}
+use Rattle.groups.proofs.Group.{turn-below}
+use Rattle.groups.proofs.Imsi.{last-three-below}
+use Rattle.groups.proofs.PagedFrames.{stands-alone, in-map}
 use Rattle.rules.specs.State.{Cell, LineState, Values, lineWith, lineAt}
 use Rattle.rules.specs.Calls.{anyLine, hasCombination, isCommonLine}
 use Rattle.rules.specs.Paging.{commonOf, pageOf}

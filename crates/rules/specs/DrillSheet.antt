@@ -10,7 +10,7 @@ use Rattle.hops.specs.Hopping.{hopOf}
 use Rattle.maps.specs.declared.Kind.the-variants.{Tch, Sacch, Sdcch, Ccch, Rach}
 use Rattle.maps.specs.Channels.{at}
 use Rattle.maps.specs.Map.{mapOf}
-use Rattle.paging.specs.Paging.{pagingOf}
+use Rattle.groups.specs.Paging.{pagingOf}
 use Rattle.rules.specs.State.{Cell}
 use Rattle.rules.specs.Calls.{startOf}
 use Rattle.rules.specs.OnAir.{Slot, lineOf}

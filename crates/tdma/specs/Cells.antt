@@ -9,7 +9,7 @@ use Rattle.storage.specs.Words.{cellOf}
 use Rattle.rules.specs.Calls.{Step}
 use Rattle.rules.specs.OnAir.{Slot}
 use Rattle.rules.specs.Who.{Match}
-use Rattle.paging.specs.declared.PagingBlock.{PagingBlock}
+use Rattle.groups.specs.declared.PagingBlock.{PagingBlock}
 use Rattle.c_answers.specs.declared.TdmaAnswer.{TdmaAnswer}
 use Rattle.c_answers.specs.declared.TdmaLine.{TdmaLine}
 use Rattle.c_answers.specs.declared.TdmaWho.{TdmaWho}

@@ -1,7 +1,7 @@
 -- `paging::block_for` meets its contract: G is I mod n, the TN is twice (I div n) mod K, and `first_frame` finds the phone's first frame.
 -- Assumes nothing.
 use Prim.Native.Nat.{ℕ, _+_, _*_, _/_, _%_, _≤_, _<_}
-use mathlib.Core.Path.{_≡_, sym, ap, _∙_, subst}
+use mathlib.Core.Path.{_≡_, sym, ap, ap₂, _∙_, subst, fun-ext}
 use mathlib.Core.Bool.{Bool, true, false, cond}
 use native.Mathlib.Nat.{mod-le, mod-lt, div-le-self, mul-le-mul}
 use native.Mathlib.Omega.{arith}
@@ -9,12 +9,14 @@ use lib.Dec.{eqb}
 use lib.ListN.{getD}
 use borrow.Author.Needs.{needs}
 use borrow.Author.Tests.{eq-eqb, ne-eqb}
+use Rattle.answers.specs.Search.{least}
 use Rattle.clock.specs.Clock.{hyperframe}
-use Rattle.paging.specs.declared.PagingBlock.{PagingBlock}
-use Rattle.paging.specs.Helpers.{starts, firstHit}
-use Rattle.paging.specs.Paging.{Common, A, n, r, timeslot, block, later, wait, blockFor}
-use Rattle.paging.proofs.FirstBlock.{first-frame}
-use Rattle.paging.proofs.Group.{factors, remainder-divided, group, turn}
+use Rattle.groups.specs.declared.PagingBlock.{PagingBlock}
+use Rattle.groups.specs.Frames.{starts}
+use Rattle.groups.specs.Paging.{Common, A, n, r, timeslot, G, block, later, wait, blockFor}
+use Rattle.groups.proofs.Group.{factors, remainder-divided, group, turn}
+use Rattle.groups.proofs.PagedFrames.{paged-frames}
+use Rattle.paging.specs.Helpers.{firstHit}
 use Rattle.paging.proofs.block_for.Statement.{statement}
 use Rattle.paging.proofs.block_for.Tie as tie
 
@@ -35,12 +37,29 @@ module _ (c : Common) (i fn : ℕ) where
   no-group : n c ≡ 0 → record { tn = 0; block = 0; frame = 0 } ≡ blockFor c i fn
   no-group e = sym (chosen true (eq-eqb (n c) 0 e))
 
-  module _ (hn : 0 < n c) (hk : 0 < c .K) (hi : i < 1000) (hf : fn < hyperframe) where
-    answer : made c fn (i % n c) (i / n c % c .K) ≡ blockFor c i fn
-    answer =
+  module _ (hn : 0 < n c) where
+    -- what the code computes is the phone's first frame: both tests are the same
+    first-frame : later fn (wait c i fn) ≡ firstHit (c .P) (G c i / A c) (getD starts (block c i) 0) fn
+    unfolding wait firstHit
+    first-frame = ap (λ (test : ℕ → Bool). later fn (least (λ d. test (later fn d)) hyperframe 0)) (fun-ext (paged-frames c i hn))
+
+    answer : 0 < c .K → made c fn (i % n c) (i / n c % c .K) ≡ blockFor c i fn
+    answer hk =
         sym (chosen false (ne-eqb (n c) 0 (λ e. omega arith))
-        ∙ (ap (λ (f : ℕ). record { tn = timeslot c i; block = block c i; frame = f }) (first-frame c i fn hn hi hf)
+        ∙ (ap (λ (f : ℕ). record { tn = timeslot c i; block = block c i; frame = f }) first-frame
         ∙ (ap (λ (g : ℕ). made c fn g (r c i / n c)) (group c i hn) ∙ ap (made c fn (i % n c)) (turn c i hn hk))))
+
+-- the same of the numbers that the code has, widened
+widened : (c : Common) (fn i a m w v s f : ℕ) → a ≡ A c → m ≡ n c → w ≡ i → v ≡ i → s ≡ getD starts (c .AG + w % m % a) 0 → f ≡ firstHit (c .P) (w % m / a) s fn
+    → record { tn = 2 * (v / m % c .K); block = c .AG + w % m % a; frame = f } ≡ made c fn (i % n c) (i / n c % c .K)
+widened c fn i a m w v s f ea em ew ev es ef = cc
+
+common : (c : tie.After-wide2) → Common
+common c = let x = c .before .before .before .args in record { K = x .lines; combined = x .combined; AG = x .ag; P = x .p }
+
+product : (c : tie.After-wide2) → c .before .wide .result * c .wide2 .result ≡ n (common c)
+unfolding common
+product c = ap₂ _*_ (c .before .wide .ensures ∙ c .before .before .paging-blocks .ensures) (c .wide2 .ensures)
 
 -- n is positive from the test on
 positive : (c : tie.Else1) → 0 < c .before .before .wide .result * c .before .wide2 .result
@@ -49,12 +68,8 @@ positive c = omega arith
 some-blocks : (c : tie.Else1) → 0 < c .before .before .before .paging-blocks .result
 some-blocks c = omega (arith, factors _ _ (positive c) .0)
 
-common : (c : tie.Else1) → Common
-common c = let x = c .before .before .before .before .args in record { K = x .lines; combined = x .combined; AG = x .ag; P = x .p }
-
-some-groups : (c : tie.Else1) → 0 < n (common c)
-unfolding common
-some-groups c = subst (λ (k : ℕ). 0 < k) (cc) (positive c)
+some-groups : (c : tie.Else1) → 0 < n (common (c .before))
+some-groups c = subst (λ (k : ℕ). 0 < k) (product (c .before)) (positive c)
 
 paging-blocks-requires : tie.Need-paging-blocks-requires
 paging-blocks-requires c κs = search needs
@@ -70,7 +85,8 @@ mul-n c =
     omega (arith, mul-le-mul {n₁ = c .before .wide .result} {m₁ = c .wide2 .result} {n₂ = 9} {m₂ = 4294967295} (omega (arith, at-most-9 (c .before .before .before .args .combined))) (omega arith))
 
 returns : tie.Need-returns
-returns c = no-group _ _ _ (cc)
+unfolding common
+returns c = no-group (common (c .before)) _ _ (sym (product (c .before)) ∙ c .if1 .taken)
 
 wide-requires-3 : tie.Need-wide-requires-3
 wide-requires-3 c κs = search needs
@@ -127,7 +143,9 @@ returns-2 : tie.Need-returns-2
 unfolding common
 returns-2 c =
     let x = c .before .before .before .before .before .before .before .before .args in
-    cc (answer (common (c .before .before .before .before)) (x .i) (x .number) (some-groups (c .before .before .before .before)) (search needs) (search needs) (search needs))
+    let k = c .before .before .before .before in
+    widened (common (k .before)) (x .number) (x .i) _ _ _ _ _ _ (k .before .before .before .paging-blocks .ensures) (product (k .before)) (c .before .before .before .wide3 .ensures) (c .before .before .wide4 .ensures) (c .before .start .ensures .0) (c .first-frame .ensures)
+    ∙ answer (common (k .before)) (x .i) (x .number) (some-groups k) (search needs)
 
 pub block-for-spec : {M : Type 1} → statement M
 block-for-spec =

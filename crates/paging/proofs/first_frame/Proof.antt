@@ -1,10 +1,12 @@
 -- `paging::first_frame` meets its contract: the next multiframe is before the turn, or past it. Assumes nothing.
-use Prim.Native.Nat.{ℕ, _+_, _*_, _≤_, _<_}
-use mathlib.Core.Path.{_≡_, sym}
+use Prim.Native.Nat.{ℕ, _+_, _-_, _*_, _/_, _≤_, _<_}
+use mathlib.Core.Path.{_≡_, sym, _∙_}
 use native.Mathlib.Omega.{arith}
 use Rattle.clock.specs.Clock.{hyperframe}
-use Rattle.paging.specs.Helpers.{isHit, firstHit}
-use Rattle.paging.proofs.FirstHit.{multiframe, Lands, lands-least, hit-next, hit-past}
+use Rattle.groups.specs.Frames.{isHit}
+use Rattle.groups.proofs.FirstHit.{multiframe, Lands, lands-least, hit-next, hit-past}
+use Rattle.groups.proofs.Remainders.{next}
+use Rattle.paging.specs.Helpers.{firstHit}
 use borrow.Author.Needs.{needs}
 use Rattle.paging.proofs.first_frame.Statement.{statement}
 use Rattle.paging.proofs.first_frame.Tie as tie
@@ -19,6 +21,15 @@ module _ (p t s fn m : ℕ) (ht : t < p) (hs : s < 51) (hf : fn < hyperframe) (h
 
   before : m < 53248 → m * 51 + s ≡ firstHit p t s fn
   before h = omega (arith, found _ (hit-next p t s fn ht hs hf hm (omega arith)))
+
+-- the numbers that `next_multiframe` is handed, widened
+widened : (p t s fn a b d : ℕ) → a ≡ (fn + 50 - s) / 51 → b ≡ t → d ≡ p → next a b d ≡ multiframe p t s fn
+widened p t s fn a b d ea eb ed = cc
+
+reached : (c : tie.After-next-multiframe) → let x = c .before .before .before .before .args in c .next-multiframe .result ≡ multiframe (x .p) (x .t) (x .s) (x .number)
+reached c =
+    c .next-multiframe .ensures
+    ∙ widened _ _ _ _ _ _ _ (c .before .before .before .wide .ensures) (c .before .before .wide2 .ensures) (c .before .wide3 .ensures)
 
 add-wide : tie.Need-add-wide
 add-wide c = search needs
@@ -45,7 +56,7 @@ add-result : tie.Need-add-result
 add-result c = search needs
 
 returns : tie.Need-returns
-returns c = past _ _ _ _ (c .before .next-multiframe .result) (search needs) (search needs) (search needs) (search needs) (cc) (c .if1 .taken)
+returns c = past _ _ _ _ (c .before .next-multiframe .result) (search needs) (search needs) (search needs) (search needs) (reached (c .before)) (c .if1 .taken)
 
 cast-result : tie.Need-cast-result
 cast-result c = search needs
@@ -57,7 +68,7 @@ add-result-2 : tie.Need-add-result-2
 add-result-2 c = search needs
 
 returns-2 : tie.Need-returns-2
-returns-2 c = before _ _ _ _ (c .before .next-multiframe .result) (search needs) (search needs) (search needs) (search needs) (cc) (c .if1 .left)
+returns-2 c = before _ _ _ _ (c .before .next-multiframe .result) (search needs) (search needs) (search needs) (search needs) (reached (c .before)) (c .if1 .left)
 
 pub first-frame-spec : {M : Type 1} → statement M
 first-frame-spec =

@@ -12,7 +12,7 @@ use borrow.Author.Tests.{le-leb, lt-leb}
 use Rattle.answers.specs.Search.{allBelow}
 use Rattle.answers.proofs.Search.{all-of, all-at}
 use Rattle.answers.proofs.Tests.{and-both, and-false-right, refute, not-both}
-use Rattle.paging.specs.Paging.{isImsi}
+use Rattle.groups.specs.Paging.{isImsi}
 use Rattle.paging.proofs.is_imsi.Statement.{statement}
 use Rattle.paging.proofs.is_imsi.Tie as tie
 

@@ -8,8 +8,8 @@ use borrow.Author.Tests.{le-leb, lt-leb, eq-eqb, ne-eqb, not-true, not-false}
 use Rattle.answers.specs.Outcome.{refused, accepted, alone}
 use Rattle.answers.proofs.Decide.{stops, passes, accepts}
 use Rattle.clock.specs.Clock.{hyperframe}
-use Rattle.paging.specs.Paging.{Common, lastThree, isImsi, blockFor, pagingOf}
-use Rattle.paging.proofs.Imsi.{three-digits, last-three-below}
+use Rattle.groups.specs.Paging.{Common, lastThree, isImsi, blockFor, pagingOf}
+use Rattle.groups.proofs.Imsi.{three-digits, last-three-below}
 use Rattle.paging.proofs.page.Statement.{statement}
 use Rattle.paging.proofs.page.Tie as tie
 

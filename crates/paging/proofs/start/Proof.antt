@@ -2,8 +2,8 @@
 use mathlib.Core.Path.{sym}
 use lib.ListN.{List·getD-eq-default}
 use borrow.Author.Needs.{needs}
-use Rattle.paging.specs.Helpers.{starts}
-use Rattle.paging.proofs.BlockFrames.{start-below}
+use Rattle.groups.specs.Frames.{starts}
+use Rattle.groups.proofs.BlockFrames.{start-below}
 use Rattle.paging.proofs.start.Statement.{statement}
 use Rattle.paging.proofs.start.Tie as tie
 

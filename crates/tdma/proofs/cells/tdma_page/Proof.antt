@@ -1,7 +1,7 @@
 -- `tdma_page` meets its contract: the answer of `cell::page`, in numbers. Assumes nothing.
 use Prim.Native.Nat.{ℕ}
 use mathlib.Core.Path.{sym, ap, _∙_}
-use Rattle.paging.specs.Paging.{paged}
+use Rattle.paging.specs.Answers.{paged}
 use Rattle.tdma.specs.Cells.{pageNumbers}
 use borrow.Author.Needs.{needs}
 use Rattle.tdma.proofs.cells.tdma_page.Statement.{statement}

@@ -10,7 +10,7 @@ use borrow.Author.Tests.{leb-true}
 use Rattle.answers.specs.Search.{allBelow}
 use Rattle.answers.proofs.Search.{all-at}
 use Rattle.answers.proofs.Tests.{and-left, and-right}
-use Rattle.paging.specs.Paging.{lastThree, isImsi}
+use Rattle.groups.specs.Paging.{lastThree, isImsi}
 
 module _ (digits : List ℕ) (e : isImsi digits ≡ true) where
   pub three-digits : 3 ≤ length digits

@@ -4,7 +4,7 @@ use mathlib.Core.Path.{refl}
 use mathlib.Core.List.{List}
 use Rattle.answers.specs.Outcome.{ascendingFrom}
 use Rattle.answers.proofs.Decide.{FairAnswer, fair-answer}
-use Rattle.paging.specs.Paging.{Common, lastThree, blockFor, pagingCauses, pagingOf}
+use Rattle.groups.specs.Paging.{Common, lastThree, blockFor, pagingCauses, pagingOf}
 
 pub page-fair : (c : Common) (digits : List ℕ) (fn : ℕ) → FairAnswer (blockFor c (lastThree digits) fn) (pagingCauses c digits fn) (pagingOf c digits fn)
 unfolding pagingOf ascendingFrom

@@ -4,17 +4,14 @@ use mathlib.Core.Bool.{Bool, false, not, cond, _&&_, _||_}
 use mathlib.Core.List.{List, [], _∷_}
 use lib.Dec.{leb, eqb}
 use lib.ListN.{length, getD}
-use Rattle.answers.specs.Outcome.{Outcome, refused, accepted, Cause, cause, decide}
-use Rattle.answers.specs.Refusals.{refusalOf}
+use Rattle.answers.specs.Outcome.{Outcome, Cause, cause, decide}
 use Rattle.answers.specs.Search.{allBelow, least}
 use Rattle.clock.specs.Clock.{hyperframe}
 use Rattle.maps.specs.declared.Kind.the-variants.{Ccch}
 use Rattle.maps.specs.Channels.{Standing, kindNumber}
 use Rattle.maps.specs.Rows.{standing}
 use Rattle.maps.specs.Combinations.{rowsOf}
-use Rattle.paging.specs.declared.PagingBlock.{PagingBlock}
-use Rattle.paging.specs.declared.Paged.{Paged}
-use Rattle.paging.specs.declared.Paged.the-variants as Paged
+use Rattle.groups.specs.declared.PagingBlock.{PagingBlock}
 
 -- ---- the phone's group
 
@@ -109,8 +106,3 @@ pagingCauses c digits fn = cause 3 (leb hyperframe fn ∷ not (isImsi digits) �
 
 unfoldable pub pagingOf : Common → List ℕ → ℕ → Outcome PagingBlock
 pagingOf c digits fn = decide (pagingCauses c digits fn) (blockFor c (lastThree digits) fn)
-
--- what the code's answer says
-abbrev pub paged : Paged → Outcome PagingBlock
-paged (Paged.Block b) = accepted b
-paged (Paged.Refused e) = refused (refusalOf e)

@@ -12,9 +12,9 @@ use Rattle.answers.specs.Search.{least}
 use Rattle.answers.proofs.Search.{First, least-first}
 use Rattle.answers.proofs.Tests.{and-left, and-right, and-both, refute}
 use Rattle.clock.specs.Clock.{hyperframe}
-use Rattle.paging.specs.Helpers.{isHit}
-use Rattle.paging.specs.Paging.{later}
-use Rattle.paging.proofs.Remainders.{next, next-remainder, next-first}
+use Rattle.groups.specs.Frames.{isHit}
+use Rattle.groups.specs.Paging.{later}
+use Rattle.groups.proofs.Remainders.{next, next-remainder, next-first}
 
 -- the first multiframe at or after FN by its frame s, among those with the remainder
 abbrev pub multiframe : ℕ → ℕ → ℕ → ℕ → ℕ

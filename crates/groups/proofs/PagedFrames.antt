@@ -14,10 +14,10 @@ use Rattle.maps.specs.Channels.{at}
 use Rattle.maps.specs.Combinations.{rowsOf}
 use Rattle.maps.specs.Map.{mapOf}
 use Rattle.maps.specs.Rows.{standing}
-use Rattle.paging.specs.Helpers.{starts}
-use Rattle.paging.specs.Paging.{Common, n, timeslot, isMultiframe, block, begins, commonIn, isPaged}
-use Rattle.paging.proofs.BlockFrames as blocks
-use Rattle.paging.proofs.Group.{block-below}
+use Rattle.groups.specs.Frames.{starts}
+use Rattle.groups.specs.Paging.{Common, n, timeslot, isMultiframe, block, begins, commonIn, isPaged}
+use Rattle.groups.proofs.BlockFrames as blocks
+use Rattle.groups.proofs.Group.{block-below}
 
 -- the common line in the phone's timeslot
 abbrev pub commonLine : Common → ℕ → ℕ

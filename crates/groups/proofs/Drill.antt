@@ -9,9 +9,9 @@ use Rattle.answers.specs.Outcome.{accepted, anyOf, decide}
 use Rattle.answers.specs.Search.{allBelow}
 use Rattle.maps.specs.Combinations.{uncombined, combinations, rowsAmong}
 use Rattle.maps.specs.Rows.{numbered, standing}
-use Rattle.paging.specs.declared.PagingBlock.{PagingBlock}
-use Rattle.paging.specs.Paging.{Common, anyBurst, begins, isPaged, later, blockFor, pagingOf}
-use Rattle.paging.proofs.FirstBlock.{given-wait}
+use Rattle.groups.specs.declared.PagingBlock.{PagingBlock}
+use Rattle.groups.specs.Paging.{Common, anyBurst, begins, isPaged, later, blockFor, pagingOf}
+use Rattle.groups.proofs.FirstBlock.{given-wait}
 
 abbrev pub one-line : Common
 one-line = record { K = 1; combined = false; AG = 1; P = 5 }

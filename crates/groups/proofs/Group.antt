@@ -5,7 +5,7 @@ use mathlib.Core.Bool.{cond}
 use native.Mathlib.Nat.{mod-lt, mod-le, mod-eq-of-lt, mod-mod-of-dvd, dvd-mul-left, mul-add-mod-self-right, div-add-mod', mul-add-div-right, mul-assoc, div-lt-iff-lt-mul, mul-comm, eq-zero-or-pos, zero-mul, mul-zero, mul-pos}
 use mathlib.Core.Logic.{⊎-elim}
 use native.Mathlib.Omega.{arith}
-use Rattle.paging.specs.Paging.{Common, A, n, r, G, block}
+use Rattle.groups.specs.Paging.{Common, A, n, r, G, block}
 
 -- a product is positive only if its factors are
 pub factors : (a b : ℕ) → 0 < a * b → (0 < a) × (0 < b)

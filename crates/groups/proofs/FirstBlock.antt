@@ -11,13 +11,13 @@ use Rattle.answers.specs.Search.{allBelow}
 use Rattle.answers.proofs.Search.{all-at, least-at, First, least-first}
 use Rattle.answers.proofs.Tests.{not-both}
 use Rattle.clock.specs.Clock.{hyperframe}
-use Rattle.paging.specs.Helpers.{starts, isHit, firstHit}
-use Rattle.paging.specs.Paging.{Common, A, n, G, block, isPaged, later, wait}
-use Rattle.paging.proofs.BlockFrames.{start-below}
-use Rattle.paging.proofs.FirstHit.{Lands, lands-least, multiframe, hit, hit-first}
-use Rattle.paging.proofs.Group.{group-multiframe, group-small}
-use Rattle.paging.proofs.PagedFrames.{paged-frames}
-use Rattle.paging.proofs.Remainders.{next-remainder}
+use Rattle.groups.specs.Frames.{starts, isHit}
+use Rattle.groups.specs.Paging.{Common, A, n, G, block, isPaged, later, wait}
+use Rattle.groups.proofs.BlockFrames.{start-below}
+use Rattle.groups.proofs.FirstHit.{Lands, lands-least, multiframe, hit, hit-first}
+use Rattle.groups.proofs.Group.{group-multiframe, group-small}
+use Rattle.groups.proofs.PagedFrames.{paged-frames}
+use Rattle.groups.proofs.Remainders.{next-remainder}
 
 -- a wait is the one in which the block begins at its end and not before
 pub given-wait : (c : Common) (i fn d : ℕ) → d < hyperframe → isPaged c i (later fn d) ≡ true
@@ -84,14 +84,6 @@ module _ (c : Common) (i fn : ℕ) (hn : 0 < n c) (hi : i < 1000) (hf : fn < hyp
             within = subst (λ (d : ℕ). d < hyperframe) e (w .below);
             none-before = subst (λ (m : ℕ). (d : ℕ) → d < m → test d ≡ false) e (w .none);
           }
-
-  -- what the code computes is this frame
-  pub first-frame : later fn (wait c i fn) ≡ firstHit (c .P) (t c i) (s c i) fn
-  unfolding wait firstHit
-  first-frame = by-cases _ (λ h w. same w) (λ h w. same w)
-    where
-      same : {f : ℕ} → Lands (hits c i) fn f → later fn (wait c i fn) ≡ firstHit (c .P) (t c i) (s c i) fn
-      same {f} w = lands-least (isPaged c i) fn f (as-paged w) ∙ sym (lands-least (hits c i) fn f w)
 
   -- where no frame up to the turn is the phone's, its first one is that of multiframe G div A
   pub past-turn : ((f : ℕ) → fn ≤ f → f < hyperframe → isPaged c i f ≡ false) → later fn (wait c i fn) ≡ 51 * (G c i / A c) + getD starts (block c i) 0

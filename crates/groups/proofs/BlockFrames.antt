@@ -24,8 +24,8 @@ use Rattle.maps.specs.Rows.{numbered, each, from, standing}
 use Rattle.maps.proofs.Range.{accepted-map}
 use Rattle.maps.proofs.Repeat.{repeats, standing-mod}
 use Rattle.maps.proofs.Same.{sameAll, all-same}
-use Rattle.paging.specs.Helpers.{starts}
-use Rattle.paging.specs.Paging.{isFirst, anyBurst, begins, commonIn}
+use Rattle.groups.specs.Frames.{starts}
+use Rattle.groups.specs.Paging.{isFirst, anyBurst, begins, commonIn}
 
 -- a block begins in one of a multiframe's 51 frames
 pub start-below : (b : ℕ) → getD starts b 0 < 51
