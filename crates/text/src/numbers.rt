@@ -8,7 +8,7 @@ ghost use mathlib.Core.Path.{_≡_};
 ghost use mathlib.Core.List.{map};
 ghost use lib.ListN.{length, take, drop};
 ghost use Rattle.wording.specs.Words.{wordsOf};
-ghost use Rattle.wording.specs.Numbers.{isDigit, isNumber, valueFrom, within, numberOf, numbersOf, onlyOf, listOf, figure};
+ghost use Rattle.wording.specs.Numbers.{isDigit, isNumber, valueFrom, within, numberOf, numbersOf, onlyOf, listOf, parameter, figure};
 ghost use Rattle.text.specs.Numbers.{numbersIn, listIn};
 ghost use Rattle.text.specs.Helpers.{Ahead-number, Ends};
 
@@ -181,7 +181,7 @@ pub fn narrow16(n: u64) -> u16
 
 // A number as 32 bits hold it: a larger one as the largest.
 pub fn narrow(n: u64) -> u32
-    ensures { λ r. ⌜ r ≡ min n 4294967295 ⌝ }
+    ensures { λ r. ⌜ r ≡ parameter n ⌝ }
 {
     if n > 4294967295 {
         return 4294967295;

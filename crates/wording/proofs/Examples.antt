@@ -46,6 +46,7 @@ numbers =
       short-list = refl;
       full-list = refl;
       no-list = refl;
+      parameters = refl;
       figures = refl;
     }
 

@@ -8,7 +8,7 @@ use Rattle.c_answers.specs.declared.TdmaMap.{TdmaMap}
 use Rattle.c_answers.specs.declared.TdmaLine.{TdmaLine}
 use Rattle.wording.specs.declared.Numeral.the-variants.{Value, NotDigits, TooLarge}
 use Rattle.wording.specs.Words.{ascii, until, run, wordsOf, sameText}
-use Rattle.wording.specs.Numbers.{took, wrong, numberOf, numbersOf, onlyOf, listOf, figure}
+use Rattle.wording.specs.Numbers.{took, wrong, numberOf, numbersOf, onlyOf, listOf, parameter, figure}
 use Rattle.wording.specs.Print.{decimal, right, left, spaced, bitCharacter, Appended}
 use Rattle.wording.specs.Names.{commandOf, burstOf}
 use Rattle.wording.specs.Replies.{numbersText, splitText, mapText, lineText, whoText, bitsText, errorText}
@@ -56,6 +56,8 @@ pub record NumberExamples : Type 0 where
   pub short-list : listOf 3 [] ≡ took [] []
   pub full-list : listOf 1 (ascii "10" ∷ ascii "20" ∷ []) ≡ wrong 4
   pub no-list : listOf 3 (ascii "10" ∷ ascii "1x" ∷ []) ≡ wrong 5
+  -- a parameter's largest value, and one above it
+  pub parameters : map parameter (4294967294 ∷ 4294967295 ∷ 4294967296 ∷ []) ≡ 4294967294 ∷ 4294967295 ∷ 4294967295 ∷ []
   -- "a character that is no digit goes in as a byte above 9"
   pub figures : map figure (ascii "09/:") ≡ 0 ∷ 9 ∷ 255 ∷ 255 ∷ []
 

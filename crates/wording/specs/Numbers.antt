@@ -70,6 +70,10 @@ listAfter ns (suc room) (w ∷ ws) = withNumber (numberOf w) (λ n. listAfter (n
 abbrev pub listOf : ℕ → List (List ℕ) → Taken
 listOf room ws = listAfter [] room ws
 
+-- "any other number too large for the parameter that it goes to is passed as that parameter's largest value": a parameter has 32 bits
+abbrev pub parameter : ℕ → ℕ
+parameter n = min n 4294967295
+
 -- "IMSI is a word of digits; a character that is no digit goes in as a byte above 9", "BITS is a word of the characters 0 and 1; another character goes in as a
 -- byte above 1"
 abbrev pub figure : ℕ → ℕ
