@@ -1,6 +1,6 @@
-// The commands but `table`: a line's words are read from where the command's own word ends, the call is made and the answer written, or why the
-// line is no command; the result is where that ends. The commands of numbers only are here, with who answers which; those that have a list of
-// ARFCNs or an IMSI are in run_words.rt, the bursts in run_bursts.rt.
+// Every command but `table`: the line's words are read from where the command's own word ends, the call is made and the answer written, or why the
+// line is no command; the result is where that ends. Here are the commands of numbers only, and `answer`, which picks among all; those with a list of
+// ARFCNs or an IMSI are in run_words.rt, those of bursts in run_bursts.rt.
 use crate::run_bursts;
 use crate::run_words;
 use c_answers::TdmaAnswer;
@@ -126,6 +126,7 @@ fn of_numbers(
     }
     let values = taken.values;
     let a = narrowed(values);
+    // Those before `start` ask nothing of the cell.
     if command < commands::START {
         return without_cell(command, a, out, at);
     }

@@ -94,6 +94,7 @@ fn given(line: &[u8], from: usize, command: u32, figures: &mut [u8]) -> Words
     if !is_burst(command, named.burst) {
         return nothing_given(numbers::UNKNOWN_BURST);
     }
+    // The last two, frequency correction and dummy, have no payload.
     if named.burst > commands::ACCESS {
         return Words {
             reason: extra(line, named.end),
