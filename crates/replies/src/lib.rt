@@ -84,6 +84,7 @@ pub fn channel_width(number: u32) -> usize
 pub fn channel(out: &mut [u8], at: usize, number: u32) -> usize
     ensures { λ r. ⌜ Appended (now (out .entry)) at (now (out .exit)) r (channelText number) ⌝ }
 {
+    // Five letters for each number from 0 on.
     let names = *b"     TCH  SACCHSDCCHFCCH SCH  BCCH CCCH RACH ";
     let start = 5 * named(number);
     let end = start + channel_width(number);
@@ -184,6 +185,7 @@ fn reason_width(number: u32) -> usize
 fn reason(out: &mut [u8], at: usize, number: u32) -> usize
     ensures { λ r. ⌜ Appended (now (out .entry)) at (now (out .exit)) r (reasonText number) ⌝ }
 {
+    // Sixteen letters for each number from 0 on.
     let reasons =
         *b"                unknown command unknown burst   too few words   too many words  not a number    number too largecount too large line too long   ";
     let start = 16 * named(number);
