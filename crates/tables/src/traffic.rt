@@ -90,8 +90,9 @@ fn sacch(rate: u32, tn: u32, turn: u32, half: u32) -> u64
 pub fn traffic(combination: u32, tn: u32, number: u32) -> u64
     ensures { λ r. ⌜ r ≡ bytes (standingNumbers (standing (rowsOf (1 + combination / 2 % 2) (tn % 8) 0) number)) ⌝ }
 {
-    let rate = combination / 2 % 2;
+    // The frame comes first, as in `control`: the compiler then does once what both begin with.
     let h = number % 26;
+    let rate = combination / 2 % 2;
     if h % 13 == 12 {
         return sacch(rate, tn, number / 26 % 4, h / 13);
     }
