@@ -161,19 +161,23 @@ fn others(random: &mut Random) -> Vec<Table> {
     tables
 }
 
-/// Without an argument all is measured; with `count` the passes are made that bench/count counts.
+/// Without an argument all is measured; with `library` the library alone, for bench/compare; with
+/// `count` the passes are made that bench/count counts.
 fn main() -> ExitCode {
     let mut random = Random(5);
-    let limited = vec![ratios(&mut random), growth(&mut random)];
+    let mut limited = vec![ratios(&mut random), growth(&mut random)];
     let arguments: Vec<String> = std::env::args().skip(1).collect();
     if arguments.is_empty() {
         println!("Nanoseconds for each call, and the ratio of the library's to it");
         println!("(below 1: the library is quicker).");
         timing::run(limited, others(&mut random));
+    } else if arguments == ["library"] {
+        limited.extend(others(&mut random));
+        timing::library(limited);
     } else if arguments == ["count"] {
         timing::count(limited);
     } else {
-        eprintln!("usage: tdma_bench [count]");
+        eprintln!("usage: tdma_bench [library | count]");
         return ExitCode::FAILURE;
     }
     ExitCode::SUCCESS

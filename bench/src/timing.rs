@@ -181,6 +181,28 @@ pub fn run(mut ratios: Vec<Table>, mut tables: Vec<Table>) {
     tables.iter().for_each(Table::print);
 }
 
+/// Compares the answers, and measures the library alone. Prints table and label of each line, with a
+/// tab between them, and an empty line; then, for each number that standard input has, the
+/// picoseconds of a call in one visit of that line.
+pub fn library(tables: Vec<Table>) {
+    let mut all = Vec::new();
+    for mut table in tables {
+        for line in &mut table.lines {
+            line.compare();
+            line.contenders.truncate(1);
+            println!("{}\t{}", table.title, line.label);
+        }
+        all.extend(table.lines);
+    }
+    println!();
+    for number in std::io::stdin().lines() {
+        let line: &mut Line = &mut all[number.unwrap().parse::<usize>().unwrap()];
+        line.contenders[0].quickest = f64::INFINITY;
+        line.measure();
+        println!("{:.0}", line.contenders[0].quickest * 1000.0);
+    }
+}
+
 /// The pass that bench/count counts: a function by itself, which has its name in the program and
 /// calls the pass instead of jumping to it.
 #[no_mangle]
