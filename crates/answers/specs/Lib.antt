@@ -1,3 +1,4 @@
 pub mod Outcome
 pub mod Refusals
 pub mod Search
+pub mod Claims

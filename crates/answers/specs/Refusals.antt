@@ -5,7 +5,6 @@ use Rattle.answers.specs.Outcome.{Refused, alone}
 use Rattle.answers.specs.declared.Refusal.{Refusal}
 use Rattle.answers.specs.declared.Refusal.TheVariants.{CellAllocation, CellParameter, OutOfRange, MobileAllocation, Maio, LineOpen, LineClosed, CommonChannel, Clash, NoSubchannel, SubchannelHeld, NotHolder, LineHeld, Malformed, FixedBit, NoCommonLine}
 use Rattle.answers.specs.declared.Answer.{Answer}
-use Rattle.answers.specs.declared.Answer.TheVariants as Answer
 
 -- document 01's number for each case, with the line of 9 and the bit of 15
 abbrev pub refusal_of : Refusal → Refused

@@ -1,6 +1,8 @@
+#![tactic(auto)]
+
 // The refusals of document 01, "Who causes a refusal": one case for each number. specs/Refusals.antt says which
 // number and which values each case stands for.
-#[derive(Drop)]
+#[derive(Clone, Copy)]
 pub enum Refusal {
     // 1: the cell allocation is not 1 to 64 ARFCNs, strictly ascending.
     CellAllocation,
@@ -37,7 +39,7 @@ pub enum Refusal {
 }
 
 // The answer of a call whose result is elsewhere: in the cell or in the lent bytes.
-#[derive(Drop)]
+#[derive(Clone, Copy)]
 pub enum Answer {
     Accepted,
     Refused(Refusal),

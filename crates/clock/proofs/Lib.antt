@@ -1,1 +1,3 @@
 pub mod RoundTrip
+pub mod Borders
+pub mod Claims

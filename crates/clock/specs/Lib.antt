@@ -1,1 +1,3 @@
 pub mod Clock
+pub mod Borders
+pub mod Claims

@@ -1,11 +1,13 @@
 // The frame clock: document 01, "Frame clock (4.3.3, 3.3.2.2)".
+#![tactic(auto)]
+
 ghost use Rattle.std.specs.Prelude.{◌≡◌};
 ghost use Rattle.clock.specs.Clock.{split_of, split_says, prime_of, prime_says, join_of, join_says};
 
 use answers::Refusal;
 
 // A frame by its counters T1, T2 and T3.
-#[derive(Drop)]
+#[derive(Clone, Copy)]
 pub struct Frame {
     pub t1: u32,
     pub t2: u32,
@@ -13,21 +15,21 @@ pub struct Frame {
 }
 
 // What a frame number splits into.
-#[derive(Drop)]
+#[derive(Clone, Copy)]
 pub enum Split {
     Parts(Frame),
     Refused(Refusal),
 }
 
 // T3', which only some frames have.
-#[derive(Drop)]
+#[derive(Clone, Copy)]
 pub enum Prime {
     Given(u32),
     NotGiven,
 }
 
 // What three counters join to.
-#[derive(Drop)]
+#[derive(Clone, Copy)]
 pub enum Joined {
     Number(u32),
     Refused(Refusal),

@@ -7,3 +7,5 @@ pub mod FirstBlock
 pub mod Imsi
 pub mod Drill
 pub mod Causes
+pub mod Borders
+pub mod Claims

@@ -1,2 +1,4 @@
 pub mod Paging
 pub mod Frames
+pub mod Borders
+pub mod Claims

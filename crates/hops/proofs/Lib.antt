@@ -3,3 +3,5 @@ pub mod Bits
 pub mod Causes
 pub mod Drill
 pub mod Mai
+pub mod Borders
+pub mod Claims

@@ -2,3 +2,5 @@ pub mod Masks
 pub mod Allocation
 pub mod Hopping
 pub mod Clash
+pub mod Borders
+pub mod Claims

@@ -8,4 +8,5 @@ pub mod Printed
 pub mod Sizes
 pub mod Undo
 pub mod WellFormed
-pub mod Examples
+pub mod Borders
+pub mod Claims

@@ -1,12 +1,14 @@
 -- What is claimed of the bursts beside the promises of the calls. Assumes nothing.
-use Rattle.std.specs.Prelude.{ℕ, ◌+◌, ◌*◌, ◌^◌, ◌<◌, ◌≡◌, true, false, List, [], ◌∷◌, length, take, drop, get_or}
+use Rattle.std.specs.Prelude.{ℕ, ◌+◌, ◌*◌, ◌^◌, ◌<◌, ◌≤◌, ◌≡◌, true, false, List, [], ◌∷◌, length, take, drop, get_or}
 use Rattle.std.proofs.Math.Option.{none, some}
-use Rattle.answers.specs.Outcome.{Refused}
+use mathlib.Core.List.{Memᴰ}
+use Rattle.answers.specs.Outcome.{Refused, Cause, any_of}
+use Rattle.answers.specs.Claims.{Caused, NoCause}
 use Rattle.answers.specs.declared.Answer.{Answer}
 use Rattle.answers.specs.declared.Answer.TheVariants.{Accepted}
 use Rattle.layouts.specs.Layouts.{codes, training, normal, frequency_correction, synchronization, dummy, access}
-use Rattle.layouts.specs.Rows.{Row, row_of, room, built, differs}
-use Rattle.layouts.specs.Bursts.{Written, wrote, build_of, take_of, build_normal_of, take_normal_of, build_synchronization_of, take_synchronization_of, build_access_of, take_access_of}
+use Rattle.layouts.specs.Rows.{Row, row_of, room, built, taken, differs}
+use Rattle.layouts.specs.Bursts.{Written, wrote, no_code, build_causes, take_causes, build_of, take_of, build_normal_of, take_normal_of, build_synchronization_of, take_synchronization_of, build_access_of, take_access_of}
 
 -- ---- "burst to payload and back, each undo the other"
 
@@ -52,6 +54,26 @@ pub record AllFixedBits : Type 0 where
   pub normal : (tsc : ℕ) → FixedBits (row_of (normal tsc)) (take_normal_of tsc)
   pub synchronization : FixedBits (row_of synchronization) take_synchronization_of
   pub access : FixedBits (row_of access) take_access_of
+
+-- ---- "The lowest number that applies is given, and only if its condition holds."
+
+-- a call with these causes, which was lent these bytes and writes this answer, left w: refused, it had its cause, no lower number applied, and
+-- no lent byte was written; accepted, it had no cause, and the answer is written
+pub record FairCall (causes : List Cause) (lent answer : List ℕ) (w : Written) : Type 0 where
+  pub caused : (r : Refused) → w.refusal ≡ some r → Caused causes r
+  pub lowest : (r : Refused) → w.refusal ≡ some r → (c : Cause) → Memᴰ c causes → any_of c.conditions ≡ true → r.number ≤ c.refusal.number
+  pub as_lent : (r : Refused) → w.refusal ≡ some r → w.bytes ≡ lent
+  pub no_cause : w.refusal ≡ none → NoCause causes
+  pub as_answered : w.refusal ≡ none → w.bytes ≡ answer
+
+pub record FairCalls : Type 0 where
+  pub build_normal : (tsc : ℕ) (payload burst : List ℕ)
+      → FairCall (no_code tsc ∷ build_causes (row_of (normal tsc)) payload burst) burst (built (row_of (normal tsc)) payload) (build_normal_of tsc payload burst)
+  pub take_normal : (tsc : ℕ) (burst payload : List ℕ)
+      → FairCall (no_code tsc ∷ take_causes (row_of (normal tsc)) burst payload) payload (taken (row_of (normal tsc)) burst) (take_normal_of tsc burst payload)
+  -- the other bursts
+  pub build : (row : Row) (payload burst : List ℕ) → FairCall (build_causes row payload burst) burst (built row payload) (build_of row payload burst)
+  pub take : (row : Row) (burst payload : List ℕ) → FairCall (take_causes row burst payload) payload (taken row burst) (take_of row burst payload)
 
 -- ---- every burst has its length, and every payload its count
 

@@ -7,3 +7,5 @@ pub mod Same
 pub mod Stood
 pub mod Unpacked
 pub mod Words
+pub mod Borders
+pub mod Claims

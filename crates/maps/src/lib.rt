@@ -1,8 +1,9 @@
 // The frame maps: which channel, subchannel, block and place a timeslot carries in each frame. Definitions in specs/, theorems in proofs/; no
 // code but the types of what a frame carries.
+#![tactic(auto)]
 
 // The logical channels.
-#[derive(Drop)]
+#[derive(Clone, Copy)]
 pub enum Kind {
     Tch,
     Sacch,
@@ -15,20 +16,20 @@ pub enum Kind {
 }
 
 // A block, and the place in it.
-#[derive(Drop)]
+#[derive(Clone, Copy)]
 pub struct Place {
     pub block: u32,
     pub place: u32,
 }
 
 // A burst belongs to one block, a TCH burst to two.
-#[derive(Drop)]
+#[derive(Clone, Copy)]
 pub enum Blocks {
     One(Place),
     Two(Place, Place),
 }
 
-#[derive(Drop)]
+#[derive(Clone, Copy)]
 pub struct Burst {
     pub kind: Kind,
     pub subchannel: u32,
@@ -36,7 +37,7 @@ pub struct Burst {
 }
 
 // What a frame carries.
-#[derive(Drop)]
+#[derive(Clone, Copy)]
 pub enum Content {
     Idle,
     Channel(Burst),

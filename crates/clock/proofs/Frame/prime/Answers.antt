@@ -9,10 +9,9 @@ use native.Mathlib.Omega.{arith}
 use lib.Dec.{eqb}
 use borrow.Author.Tests.{eq-eqb, ne_eqb}
 use Rattle.answers.specs.Outcome.{any_of}
-use Rattle.answers.proofs.Decide.{holds, none_holds}
+use Rattle.answers.proofs.Decide.{holds, none-holds}
 use Rattle.clock.specs.Clock.{prime_of}
-use Rattle.clock.proofs.Frame.prime.Statement.{statement}
-use Rattle.clock.proofs.Frame.prime.Tie as tie
+use Rattle.clock.proofs.Frame.prime.Goals as goal
 
 module _ (t3 : ℕ) where
   abbrev Listed : Type 0
@@ -34,7 +33,7 @@ module _ (t3 : ℕ) where
 
   unlisted : (Listed → ⊥) → any_of tests ≡ false
   unlisted h =
-      none_holds tests (
+      none-holds tests (
         ne_eqb _ _ (λ e. h (inl e)),
         (
           ne_eqb _ _ (λ e. h (inr (inl e))),
@@ -53,14 +52,11 @@ module _ (t3 : ℕ) where
   unfolding prime_of
   absent h = sym (ap (λ (b : Bool). cond b (some ((t3 - 1) / 10)) none) (unlisted h))
 
-sub_t4 : tie.Need-overflow-sub-t4
-sub_t4 c = positive _ c.match.keys1
+pub overflow_sub-result : goal.overflow_sub-result
+overflow_sub-result c = positive _ c.in-1.is
 
-returns : tie.Need-returns
-returns c = given _ c.match.keys1
+pub returns-in-1 : goal.returns-in-1
+returns-in-1 c = given _ c.in-1.is
 
-returns_2 : tie.Need-returns-2
-returns_2 c = absent _ c.match.rest.1
-
-pub prime_spec : {M : Type 1} → statement M
-prime_spec = tie.close (tie.spec sub_t4 returns returns_2)
+pub returns-in_default : goal.returns-in_default
+returns-in_default c = absent _ c.in_default.in_default-own.rest.1

@@ -1,0 +1,65 @@
+-- Both sides of each border of hopping, with the exact answers or refusals; proofs/Borders.antt computes them. Assumes nothing.
+use Rattle.std.specs.Prelude.{ℕ, zero, suc, ◌≡◌, true, false, List, [], ◌∷◌, ◌++◌, map}
+use Rattle.answers.specs.Outcome.{Outcome, refused, accepted, alone}
+use Rattle.hops.specs.Hopping.{nbin, position_of, hop_of}
+use Rattle.hops.specs.Clash.{Physical, clash}
+
+-- the ARFCNs 0, 1, 2, .., so many of them
+unfoldable pub arfcns : ℕ → List ℕ
+arfcns zero = []
+arfcns (suc n) = arfcns n ++ (n ∷ [])
+
+-- the mask with all 64 ones, and the one with the highest alone
+abbrev pub all_ones : ℕ
+all_ones = 18446744073709551615
+
+abbrev pub highest_one : ℕ
+highest_one = 9223372036854775808
+
+-- HSN 0 and MAIO 0, by the mask and CA's length
+abbrev pub masked : ℕ → ℕ → Outcome ℕ
+masked length mask = position_of length mask 0 0 0
+
+-- CA and mask have 64 positions, and MAIO is 0
+abbrev pub hopped : ℕ → ℕ → Outcome ℕ
+hopped hsn fn = position_of 64 all_ones hsn 0 fn
+
+abbrev pub line : ℕ → ℕ → ℕ → ℕ → Physical
+line tn mask hsn maio = record { tn = tn; mask = mask; hsn = hsn; maio = maio }
+
+pub record Borders : Type 0 where
+  -- "An ARFCN is a channel number, 0 to 1023. The cell allocation CA is 1 to 64 ARFCNs, strictly ascending."
+  pub allocation : map (λ ca. hop_of ca 1 0 0 0) ((0 ∷ []) ∷ (1023 ∷ []) ∷ (1 ∷ 1022 ∷ 1023 ∷ []) ∷ arfcns 64 ∷ [])
+      ≡ accepted 0 ∷ accepted 1023 ∷ accepted 1 ∷ accepted 0 ∷ []
+  -- "1 CA isn't as above."
+  pub no_allocation : map (λ ca. hop_of ca 1 0 0 0) ([] ∷ (1024 ∷ []) ∷ (10 ∷ 1024 ∷ []) ∷ (20 ∷ 20 ∷ []) ∷ (10 ∷ 30 ∷ 20 ∷ []) ∷ arfcns 65 ∷ [])
+      ≡ refused (alone 1) ∷ refused (alone 1) ∷ refused (alone 1) ∷ refused (alone 1) ∷ refused (alone 1) ∷ refused (alone 1) ∷ []
+  -- "HSN is 0 to 63", "FN is 0 to 2,715,647": "3 .. HSN, .. FN .. out of range"
+  pub ranges : position_of 4 7 63 0 0 ∷ position_of 4 7 64 0 0 ∷ position_of 4 7 0 0 2715647 ∷ position_of 4 7 0 0 2715648 ∷ []
+      ≡ accepted 0 ∷ refused (alone 3) ∷ accepted 2 ∷ refused (alone 3) ∷ []
+  -- "A mobile allocation is a 64-bit mask; bit p (p = 0 is worth 1) stands for CA position p."
+  pub mask : masked 1 1 ∷ masked 4 8 ∷ masked 64 highest_one ∷ [] ≡ accepted 0 ∷ accepted 3 ∷ accepted 63 ∷ []
+  -- "4 mask zero, or a one at or above CA's length."
+  pub no_mask : masked 4 0 ∷ masked 4 16 ∷ masked 4 24 ∷ masked 4 highest_one ∷ masked 63 highest_one ∷ masked 0 1 ∷ []
+      ≡ refused (alone 4) ∷ refused (alone 4) ∷ refused (alone 4) ∷ refused (alone 4) ∷ refused (alone 4) ∷ refused (alone 4) ∷ []
+  -- "N is the count of its ones, .. MAIO is 0 to N − 1."
+  pub maio : position_of 4 7 0 2 0 ∷ position_of 4 8 0 0 0 ∷ position_of 64 all_ones 0 63 0 ∷ [] ≡ accepted 2 ∷ accepted 3 ∷ accepted 63 ∷ []
+  -- "5 MAIO not below N."
+  pub no_maio : position_of 4 7 0 3 0 ∷ position_of 4 8 0 1 0 ∷ position_of 64 all_ones 0 64 0 ∷ [] ≡ refused (alone 5) ∷ refused (alone 5) ∷ refused (alone 5) ∷ []
+  -- "The lowest number that applies is given": 1, 3, 4 before those above them
+  pub lowest : hop_of [] 0 64 64 2715648 ∷ hop_of (10 ∷ []) 0 64 64 0 ∷ position_of 4 0 0 64 2715648 ∷ position_of 4 16 0 1 0 ∷ []
+      ≡ refused (alone 1) ∷ refused (alone 3) ∷ refused (alone 3) ∷ refused (alone 4) ∷ []
+  -- "HSN = 0: MAI = (FN + MAIO) mod N"
+  pub cyclic : map (hopped 0) (0 ∷ 63 ∷ 64 ∷ 65 ∷ []) ≡ accepted 0 ∷ accepted 63 ∷ accepted 0 ∷ accepted 1 ∷ []
+  -- "Otherwise M = T2 + RNTABLE[(HSN xor (T1 mod 64)) + T3]": T1 of 0, 63, 64, 65 and 2047
+  pub random : map (hopped 1) (0 ∷ 84863 ∷ 84864 ∷ 86190 ∷ 2715647 ∷ []) ≡ accepted 34 ∷ accepted 42 ∷ accepted 34 ∷ accepted 48 ∷ accepted 42 ∷ []
+  pub random_63 : map (hopped 63) (0 ∷ 84863 ∷ 84864 ∷ 86190 ∷ 2715647 ∷ []) ≡ accepted 43 ∷ accepted 34 ∷ accepted 43 ∷ accepted 40 ∷ accepted 34 ∷ []
+  -- "NBIN is the number of bits needed to write N": N before and at each power of two
+  pub bits : map nbin (1 ∷ 2 ∷ 3 ∷ 4 ∷ 7 ∷ 8 ∷ 15 ∷ 16 ∷ 31 ∷ 32 ∷ 63 ∷ 64 ∷ []) ≡ 1 ∷ 2 ∷ 2 ∷ 3 ∷ 3 ∷ 4 ∷ 4 ∷ 5 ∷ 5 ∷ 6 ∷ 6 ∷ 7 ∷ []
+  -- "Two lines clash if TN is equal, the masks share a one, and it isn't so that masks and HSN are equal and MAIO differ."
+  pub clashes : clash (line 0 6 1 0) (line 0 6 1 0) ∷ clash (line 0 6 1 0) (line 0 6 2 1) ∷ clash (line 0 6 1 0) (line 0 4 1 1)
+      ∷ clash (line 7 1 0 0) (line 7 all_ones 0 1) ∷ clash (line 7 highest_one 0 0) (line 7 all_ones 0 1) ∷ []
+      ≡ true ∷ true ∷ true ∷ true ∷ true ∷ []
+  pub no_clash : clash (line 0 6 1 0) (line 1 6 1 0) ∷ clash (line 0 6 1 0) (line 0 6 1 1) ∷ clash (line 0 6 1 0) (line 0 9 1 0)
+      ∷ clash (line 0 0 1 0) (line 0 0 1 0) ∷ []
+      ≡ false ∷ false ∷ false ∷ false ∷ []

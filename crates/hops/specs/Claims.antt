@@ -1,0 +1,62 @@
+-- What is claimed of hopping beside the promises of its calls. Assumes nothing.
+use Rattle.std.specs.Prelude.{ℕ, ◌+◌, ◌/◌, ◌%◌, ◌^◌, ◌≡◌, ◌≢◌, ◌<◌, ◌≤◌, true, false, not, List, eqb, length, get_or, bit_and, bit_xor, count_ones}
+use Rattle.answers.specs.Outcome.{Outcome, refused, accepted}
+use Rattle.answers.specs.Claims.{FairAnswer}
+use Rattle.hops.specs.Masks.{bit, ones, ones_below, one_at_or_above, share_one}
+use Rattle.hops.specs.Allocation.{is_allocation}
+use Rattle.hops.specs.Hopping.{rntable, nbin, mai_of, line_position, line_arfcn, position_causes, position_of, hop_causes, hop_of}
+use Rattle.hops.specs.Clash.{Physical, clash}
+
+-- "The lowest number that applies is given, and only if its condition holds."
+pub record FairCalls : Type 0 where
+  pub position : (length m hsn maio fn : ℕ) → FairAnswer (line_position m hsn maio fn) (position_causes length m hsn maio fn) (position_of length m hsn maio fn)
+  pub hop : (ca : List ℕ) (m hsn maio fn : ℕ) → FairAnswer (line_arfcn ca m hsn maio fn) (hop_causes ca m hsn maio fn) (hop_of ca m hsn maio fn)
+
+-- what hop answers for a line of a cell with this CA
+abbrev pub arfcn_of : List ℕ → Physical → ℕ → Outcome ℕ
+arfcn_of ca v fn = hop_of ca v.mask v.hsn v.maio fn
+
+-- two lines of one timeslot that don't clash never have the same ARFCN
+unfoldable pub Apart : Type 0
+Apart = (ca : List ℕ) (v w : Physical) → v.tn ≡ w.tn → clash v w ≡ false
+    → (fn a b : ℕ) → arfcn_of ca v fn ≡ accepted a → arfcn_of ca w fn ≡ accepted b → a ≢ b
+
+-- "the mask's one bit that has MAI ones below it": the position that is answered is that bit, and CA has an entry there
+pub record AtOne (length m hsn maio fn p : ℕ) : Type 0 where
+  pub is_one : bit m p ≡ 1
+  pub mai_ones_below : ones_below m p ≡ mai_of (ones m) hsn maio fn
+  pub mai_below_n : mai_of (ones m) hsn maio fn < ones m
+  pub in_allocation : p < length
+
+unfoldable pub Position : Type 0
+Position = (length m hsn maio fn p : ℕ) → position_of length m hsn maio fn ≡ accepted p → AtOne length m hsn maio fn p
+
+-- the entry of CA at the position that is answered
+abbrev pub entry_at : List ℕ → Outcome ℕ → Outcome ℕ
+entry_at ca (refused r) = refused r
+entry_at ca (accepted p) = accepted (get_or ca p 0)
+
+-- "The ARFCN is the CA entry at" that position: hop is the check of CA, position, and the entry there
+unfoldable pub ByPosition : Type 0
+ByPosition = (ca : List ℕ) (m hsn maio fn : ℕ) → is_allocation ca ≡ true → hop_of ca m hsn maio fn ≡ entry_at ca (position_of (length ca) m hsn maio fn)
+
+-- "NBIN is the number of bits needed to write N": so many have room for N, and fewer have not
+unfoldable pub Nbin : Type 0
+Nbin = (n : ℕ) → n ≤ 64 → (n < 2 ^ nbin n) × ((k : ℕ) → k < nbin n → 2 ^ k ≤ n)
+
+-- "RNTABLE, entries 0 to 113", "RNTABLE with 114 entries proved at most 127"
+pub record Rntable : Type 0 where
+  pub entries : length rntable ≡ 114
+  pub at_most_127 : (k : ℕ) → get_or rntable k 0 ≤ 127
+  -- no number stands there twice
+  pub none_twice : (i j : ℕ) → i < 114 → j < 114 → get_or rntable i 0 ≡ get_or rntable j 0 → i ≡ j
+  -- "RNTABLE[(HSN xor (T1 mod 64)) + T3]" is one of them
+  pub within : (hsn t1 t3 : ℕ) → hsn ≤ 63 → t3 ≤ 50 → bit_xor hsn (t1 % 64) + t3 < 114
+
+-- "64-bit allocation masks are ANDed and shifted; overlap and membership are proved bit by bit", "Count of ones gives N": what these give
+-- of 64-bit words is what the definitions say bit by bit
+pub record Words : Type 0 where
+  pub count : (m : ℕ) → m < 2 ^ 64 → count_ones m ≡ ones m
+  pub overlap : (a b : ℕ) → a < 2 ^ 64 → b < 2 ^ 64 → not (eqb (bit_and a b) 0) ≡ share_one a b
+  pub membership : (m p : ℕ) → m < 2 ^ 64 → 64 ≤ p → bit m p ≡ 0
+  pub shifted : (m n : ℕ) → m < 2 ^ 64 → n < 64 → not (eqb (m / 2 ^ n) 0) ≡ one_at_or_above m n
