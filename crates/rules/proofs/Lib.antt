@@ -4,6 +4,7 @@ pub mod History
 pub mod AsListed
 pub mod Sound
 pub mod Places
+pub mod Owners
 pub mod SubchannelRows
 pub mod LineAnswer
 pub mod Shown
@@ -16,3 +17,6 @@ pub mod Known
 pub mod WhoAndLine
 pub mod CommonLines
 pub mod PageAndLine
+pub mod Borders
+pub mod WellFormed
+pub mod Claims

@@ -9,7 +9,7 @@ use Rattle.maps.specs.Channels.{Standing, is_common}
 use Rattle.maps.specs.Combinations.{rows_of}
 use Rattle.maps.specs.Rows.{Row, stands, told}
 use Rattle.rules.specs.State.{Cell, Values, allocation}
-use Rattle.rules.specs.History.{Made, opened_with, held_by}
+use Rattle.rules.specs.History.{Made, opened_with, is_seized}
 
 -- subchannel s of line n, or the common part of line n
 pub data Channel : Type 0 where
@@ -22,7 +22,7 @@ line_number (common_part n) = n
 
 -- a subchannel is carried while it is held, a common part while its line is open
 abbrev pub is_held : List Made → Channel → Bool
-is_held past (subchannel n s) = not (eqb (held_by past n s) 0)
+is_held past (subchannel n s) = is_seized past n s
 is_held past (common_part n) = true
 
 -- the burst is the channel's: of its s, SACCH included; or of the common part
@@ -41,7 +41,7 @@ pub record Spot : Type 0 where
 pub record Stands (first : Cell) (past : List Made) (x : Channel) (spot : Spot) : Type 0 where
   pub values : Values
   pub is_open : opened_with past (line_number x) ≡ some values
-  pub is_held : is_held past x ≡ true
+  pub held : is_held past x ≡ true
   pub row : Row
   pub of_map : Memᴰ row (rows_of values.combination values.tn spot.direction)
   pub of_channel : is_of x (told row) ≡ true

@@ -38,7 +38,7 @@ pub record Shown (cell : Cell) (x : Channel) (spot : Spot) : Type 0 where
   pub burst : Standing
   pub in_frame : Memᴰ burst slot.standing
   pub of_channel : is_of x burst ≡ true
-  pub is_owned : is_owned x slot.owner ≡ true
+  pub owned : is_owned x slot.owner ≡ true
   pub in_timeslot : (line_at cell (line_number x)).tn ≡ spot.tn
   pub on_arfcn : slot.arfcn ≡ spot.arfcn
 

@@ -1,10 +1,13 @@
 -- A run of calls with its exact answers, so that a reader sees calls accepted and refused. proofs/ExampleRun.antt computes it. Assumes nothing.
-use Rattle.std.specs.Prelude.{ℕ, List, [], ◌∷◌}
+use Rattle.std.specs.Prelude.{ℕ, ◌≡◌, List, [], ◌∷◌}
 use Rattle.std.proofs.Math.Option.{Option, none, some}
-use Rattle.answers.specs.Outcome.{Refused, alone}
+use Rattle.answers.specs.Outcome.{Refused, accepted, alone}
+use Rattle.maps.specs.declared.Kind.TheVariants.{Tch, Sch}
+use Rattle.maps.specs.Channels.{at}
 use Rattle.rules.specs.State.{Cell, Values}
 use Rattle.rules.specs.Calls.{start_of}
-use Rattle.rules.specs.History.{Call, opens, closes, seizes, releases}
+use Rattle.rules.specs.OnAir.{line_of}
+use Rattle.rules.specs.History.{Call, opens, closes, seizes, releases, opened_with, held_by}
 use Rattle.rules.specs.CollisionFree.{calling, Run, run, begin}
 
 -- the refusal of each call of a list, none where it is accepted
@@ -63,6 +66,19 @@ example_refusals =
 abbrev pub example_end : Run
 example_end = run (begin example_cell) example_calls
 
--- a 5, with AG 2 and with AG 3
+-- a 5 in a cell with this AG
 abbrev pub combined_with : ℕ → Option Refused
 combined_with ag = (calling (start_of (10 ∷ 20 ∷ 30 ∷ 40 ∷ []) 10 3 ag 5).cell (opens 0 (values 0 1 0 0 5 3))).refusal
+
+pub record ExampleRun : Type 0 where
+  pub answers : refusals example_cell example_calls ≡ example_refusals
+  -- afterwards line 1 is open with the values of the fifth call and line 4, whose opens were refused, is closed; s 1 of line 3 is held by 79, and
+  -- s 0 is free
+  pub opened : (opened_with example_end.past 1 ≡ some (values 2 1 0 0 6 3)) × (opened_with example_end.past 4 ≡ none)
+  pub held : (held_by example_end.past 3 1 ≡ 79) × (held_by example_end.past 3 0 ≡ 0)
+  -- in frame 1, downlink, lines 2 and 3, both in timeslot 1, send on 40 and on 30; line 0 sends SCH on C0
+  pub sent : (line_of example_end.cell 2 1 0 ≡ accepted (record { arfcn = 40; standing = at Tch 0 0 1 ∷ at Tch 0 5 5 ∷ []; owner = 81 }))
+      × (line_of example_end.cell 3 1 0 ≡ accepted (record { arfcn = 30; standing = at Tch 1 0 0 ∷ at Tch 1 5 2 ∷ []; owner = 79 }))
+      × (line_of example_end.cell 0 1 0 ≡ accepted (record { arfcn = 10; standing = at Sch 0 0 0 ∷ []; owner = 0 }))
+  -- "5 needs AG ≤ 2"
+  pub combined_line : (combined_with 2 ≡ none) × (combined_with 3 ≡ some (alone 8))

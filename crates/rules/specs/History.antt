@@ -1,6 +1,6 @@
 -- What the list of calls says: document 01, "What the third demand calls open and held is read from the list: the calls, their arguments and
 -- whether each was accepted." No cell is looked at here. Assumes nothing.
-use Rattle.std.specs.Prelude.{ℕ, Bool, false, ◌&&◌, cond, List, [], ◌∷◌, eqb}
+use Rattle.std.specs.Prelude.{ℕ, Bool, true, false, ◌&&◌, cond, List, [], ◌∷◌, eqb}
 use Rattle.std.proofs.Math.Option.{Option, none, some}
 use Rattle.rules.specs.State.{Cell, LineState, Values, tabulate, line_count, line_with, closed_line}
 
@@ -62,6 +62,17 @@ owner_in (some (releases n s o)) = 0
 -- there." 0 where it is not held
 unfoldable pub held_by : List Made → ℕ → ℕ → ℕ
 held_by past n s = owner_in (last_accepted (seizes_or_releases n s) (since n past))
+
+abbrev pub is_seize : Option Call → Bool
+is_seize none = false
+is_seize (some (opens n v)) = false
+is_seize (some (closes n)) = false
+is_seize (some (seizes n s o)) = true
+is_seize (some (releases n s o)) = false
+
+-- "held if the last accepted seize or release of it since that open is a seize"
+unfoldable pub is_seized : List Made → ℕ → ℕ → Bool
+is_seized past n s = is_seize (last_accepted (seizes_or_releases n s) (since n past))
 
 -- "Every other line is closed, and every other s has owner 0."
 abbrev pub line_or : Option Values → (ℕ → ℕ) → LineState

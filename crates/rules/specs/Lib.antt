@@ -1,5 +1,7 @@
+pub mod Borders
 pub mod Calls
 pub mod Carried
+pub mod Claims
 pub mod CollisionFree
 pub mod DrillSheet
 pub mod ExampleRun
@@ -8,4 +10,5 @@ pub mod OnAir
 pub mod Paging
 pub mod Reached
 pub mod State
+pub mod WellFormed
 pub mod Who
