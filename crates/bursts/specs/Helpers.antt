@@ -2,7 +2,6 @@
 use Rattle.std.specs.Prelude.{ℕ, suc, cond, List, [], ◌∷◌, ◌++◌, map, drop, replicate, get_or}
 use Rattle.std.proofs.Math.Option.{some, none}
 use Rattle.bursts.specs.declared.fields.Field.{Field}
-use Rattle.bursts.specs.declared.fields.Field.TheVariants as Field
 use Rattle.layouts.specs.Layouts.{bits}
 use Rattle.layouts.specs.Rows.{Row, is_other}
 

@@ -6,7 +6,7 @@ ghost use Rattle.layouts.specs.Rows.{built, taken};
 ghost use Rattle.layouts.specs.Bursts.{byte_above_one};
 ghost use Rattle.bursts.specs.Helpers.{width, payload_of, field_row, first_wrong};
 
-#[derive(Drop)]
+#[derive(Clone, Copy)]
 pub enum Field {
     // So many bits of fixed states: the word's, first bit highest. Past 64 bits the states are 0.
     Fixed(usize, u64),

@@ -1,4 +1,6 @@
 // The five bursts, one bit to a byte: document 01, "Bursts (5.2)". fields.rt builds and takes apart one field, layout.rt a layout's fields.
+#![tactic(auto)]
+
 mod fields;
 mod layout;
 
@@ -89,36 +91,42 @@ pub fn take_normal(tsc: u32, burst: &[u8], payload: &mut [u8]) -> Answer
     take(normal_fields(tsc as usize), 148, 116, burst, payload)
 }
 
+#[tactic(auto, unfolding(crate::proofs::Standard::rows))]
 pub fn build_synchronization(payload: &[u8], burst: &mut [u8]) -> Answer
     ensures { wrote result burst.new ≡ build_synchronization_of payload.now burst.old }
 {
     build(SYNCHRONIZATION, 148, 78, payload, burst)
 }
 
+#[tactic(auto, unfolding(crate::proofs::Standard::rows))]
 pub fn take_synchronization(burst: &[u8], payload: &mut [u8]) -> Answer
     ensures { wrote result payload.new ≡ take_synchronization_of burst.now payload.old }
 {
     take(SYNCHRONIZATION, 148, 78, burst, payload)
 }
 
+#[tactic(auto, unfolding(crate::proofs::Standard::rows))]
 pub fn build_access(payload: &[u8], burst: &mut [u8]) -> Answer
     ensures { wrote result burst.new ≡ build_access_of payload.now burst.old }
 {
     build(ACCESS, 88, 36, payload, burst)
 }
 
+#[tactic(auto, unfolding(crate::proofs::Standard::rows))]
 pub fn take_access(burst: &[u8], payload: &mut [u8]) -> Answer
     ensures { wrote result payload.new ≡ take_access_of burst.now payload.old }
 {
     take(ACCESS, 88, 36, burst, payload)
 }
 
+#[tactic(auto, unfolding(crate::proofs::Standard::rows))]
 pub fn build_frequency_correction(burst: &mut [u8]) -> Answer
     ensures { wrote result burst.new ≡ build_frequency_correction_of burst.old }
 {
     build(FREQUENCY_CORRECTION, 148, 0, &[], burst)
 }
 
+#[tactic(auto, unfolding(crate::proofs::Standard::rows))]
 pub fn build_dummy(burst: &mut [u8]) -> Answer
     ensures { wrote result burst.new ≡ build_dummy_of burst.old }
 {

@@ -1,4 +1,6 @@
 // The check of a cell allocation, and its entries.
+#![tactic(auto)]
+
 ghost use Rattle.std.specs.Prelude.{◌≡◌, length, get_or, ◌<◌};
 ghost use Rattle.hops.specs.Allocation.{in_place, is_allocation};
 

@@ -1,4 +1,5 @@
 // Which channel, subchannel, block and place a timeslot carries in each frame: document 01, "From frame to logical channel (6.4.1, clause 7)".
+#![tactic(auto)]
 
 ghost use Rattle.std.specs.Prelude.{◌≡◌, false};
 ghost use Rattle.answers.specs.Outcome.{any_of};
@@ -15,7 +16,7 @@ use tables::traffic::traffic;
 use tables::unpack::unpack;
 
 // The answer of `map`.
-#[derive(Drop)]
+#[derive(Clone, Copy)]
 pub enum Mapped {
     Frame(Content),
     Refused(Refusal),
@@ -25,6 +26,7 @@ pub enum Mapped {
 const LAST_FRAME: u32 = 2_715_647;
 
 // The number is a combination's.
+#[tactic(auto, unfolding(maps::specs::Combinations::among, maps::specs::Combinations::combinations))]
 pub fn is_combination(combination: u32) -> bool
     ensures { result ≡ is_combination combination }
 {

@@ -1,4 +1,6 @@
 // Frequency hopping: document 01, "Hopping (6.2)". sequence.rt has the hopping sequence.
+#![tactic(auto)]
+
 mod sequence;
 
 ghost use Rattle.std.specs.Prelude.{◌≡◌};
@@ -12,14 +14,14 @@ use masks::one_at_or_above;
 use select::position_at;
 
 // The CA position that a line uses in a frame.
-#[derive(Drop)]
+#[derive(Clone, Copy)]
 pub enum Positioned {
     At(u32),
     Refused(Refusal),
 }
 
 // The ARFCN that a line uses in a frame.
-#[derive(Drop)]
+#[derive(Clone, Copy)]
 pub enum Hopped {
     Arfcn(u32),
     Refused(Refusal),

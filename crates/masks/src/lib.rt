@@ -1,4 +1,6 @@
 // The bits of a mobile allocation's mask.
+#![tactic(auto)]
+
 ghost use Rattle.std.specs.Prelude.{◌≡◌};
 ghost use Rattle.hops.specs.Masks.{contains, one_at_or_above, share_one};
 

@@ -1,4 +1,6 @@
 // Where and when a phone is paged, on plain numbers: document 01, "Paging (6.5.2, 6.5.3)".
+#![tactic(auto)]
+
 ghost use Rattle.std.specs.Prelude.{cond, ◌≡◌, ◌+◌, ◌-◌, ◌%◌, ◌<◌, ◌≤◌, length, get_or};
 ghost use Rattle.groups.specs.Frames.{starts};
 ghost use Rattle.groups.specs.Paging.{last_three, is_imsi, block_for, paging_of};
@@ -9,7 +11,7 @@ use answers::Refusal;
 use clock::Frame;
 use groups::PagingBlock;
 
-#[derive(Drop)]
+#[derive(Clone, Copy)]
 pub enum Paged {
     Block(PagingBlock),
     Refused(Refusal),

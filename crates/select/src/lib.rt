@@ -1,11 +1,13 @@
 // The one of a mask that has a given number of ones below it. First the counts of ones in blocks of 2, 4, 8, 16 and 32 bits, each the sum of the
 // counts in its halves; then, from the whole mask down, six times the half of the block that holds the wanted one.
+#![tactic(auto)]
+
 ghost use Rattle.std.specs.Prelude.{◌≡◌, cond, ◌<◌, ◌≤◌, ◌+◌, ◌-◌, ◌/◌, ◌%◌, ◌^◌, ltb};
 ghost use Rattle.std.specs.Int.Bits.{bit_and};
 ghost use Rattle.select.specs.Select.{select_of};
 
 // The wanted one is at or above bit `at`, with `left` ones between.
-#[derive(Drop)]
+#[derive(Clone, Copy)]
 struct Search {
     at: u32,
     left: u64,

@@ -1,2 +1,2 @@
 pub mod Computed
-pub mod Keys
+pub mod Words

@@ -7,6 +7,7 @@ ghost use Rattle.maps.specs.Rows.{standing};
 
 // Four frames to a word, the first one last. A frame is four hexadecimal digits: 4 * block + place (two), subchannel, and the channel's number,
 // 0 for idle. Each key has an arm, so that the compiler makes a table of it without a test.
+#[tactic(auto, using(crate::proofs::Words::word_at), unfolding(crate::proofs::Words::at_a_frame))]
 fn control_word(key: u32) -> u64
     requires { key < 208 }
     ensures { result ≡ control_word key }
@@ -243,6 +244,7 @@ fn choose(first: bool, a: u64, b: u64) -> u64
 }
 
 // The digits of a frame as bytes.
+#[tactic(auto, unfolding(crate::specs::Codes::spread_of))]
 fn spread(code: u64) -> u64
     ensures { result ≡ spread_of code }
 {

@@ -7,6 +7,7 @@ ghost use Rattle.maps.specs.Rows.{standing};
 
 // The bytes of timeslot 0 in each h, from the last to the first: the refusal, channel, subchannel, how many blocks, block and place, and block and
 // place of the second. Each key has an arm, those of SACCH too, which `traffic` never asks for: so the compiler makes a table of it.
+#[tactic(auto, unfolding(crate::specs::Codes::traffic_word, crate::proofs::Words::at_a_frame))]
 fn traffic_word(key: u32) -> u64
     requires { key < 52 }
     ensures { result ≡ traffic_word key }
@@ -72,6 +73,7 @@ fn traffic_word(key: u32) -> u64
 
 // The frames h = 12 (half 0) and h = 25 (half 1): half rate (1) has SACCH of its two subchannels, full rate (0) has SACCH at 12 in an even
 // timeslot and at 25 in an odd one. In each pair of timeslots the places stand 26 frames later than in the pair before.
+#[tactic(auto, unfolding(crate::specs::Codes::sacch_bytes))]
 fn sacch(rate: u32, tn: u32, turn: u32, half: u32) -> u64
     requires { (rate < 2) × ((turn < 4) × (half < 2)) }
     ensures { result ≡ sacch_bytes rate tn turn half }

@@ -15,6 +15,7 @@ fn byte(bytes: u64, i: u32) -> u32
 }
 
 // The kind of a channel number.
+#[tactic(auto, unfolding(maps::specs::Channels::kind_at))]
 fn kind_at(n: u32) -> Kind
     ensures { result ≡ kind_at n }
 {
@@ -31,6 +32,7 @@ fn kind_at(n: u32) -> Kind
 }
 
 // The content of a frame with these bytes.
+#[tactic(auto, unfolding(maps::specs::Numbers::standing_of))]
 pub fn unpack(bytes: u64) -> Content
     ensures { carried result ≡ standing_of (numbers_at bytes) }
 {
