@@ -11,7 +11,7 @@ use masks::contains;
 use storage::{WORDS, ag, bcc, c0, combination_at, entry, tn_at};
 
 // A line that is looked for.
-#[derive(Drop)]
+#[derive(Clone, Copy)]
 pub enum Wanted {
     // Of combination 4, 5 or 6.
     Common,

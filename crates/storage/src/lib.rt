@@ -1,5 +1,7 @@
 // The words that hold a cell. Only this file knows which word is which; specs/Words.antt says so: 64 words of CA, then the length of CA, C0, BCC, AG
 // and P, then fifteen words for each line.
+#![tactic(auto)]
+
 ghost use Rattle.std.specs.Prelude.{◌≡◌, length, get_or, ◌+◌, ◌*◌, ◌/◌, ◌%◌, ◌^◌, ◌<◌, ◌≤◌};
 ghost use Rattle.rules.specs.State.{line_with, free, line_at, owner_at, empty};
 ghost use Rattle.rules.specs.Calls.{with_line, with_owner};
