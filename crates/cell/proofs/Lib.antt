@@ -1,1 +1,2 @@
 pub mod OfCode
+pub mod OfCell

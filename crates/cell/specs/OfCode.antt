@@ -13,6 +13,7 @@ use Rattle.rules.specs.OnAir.{line_of}
 use Rattle.rules.specs.History.{Call, Made, opened_with}
 use Rattle.rules.specs.CollisionFree.{CollisionFree, Run, calling, made, slot_from}
 use Rattle.rules.specs.Reached.{Reached}
+use Rattle.cell.specs.Leaves.{Leaves}
 
 -- a call, what the code answered, and the words that it left
 pub record Answered : Type 0 where
@@ -23,7 +24,7 @@ pub record Answered : Type 0 where
 -- each call was made on the words that the one before it left, and its function kept its promise
 unfoldable pub Promised : List ℕ → List Answered → Type 0
 Promised words [] = Unit
-Promised words (a ∷ more) = (changed a.answer (cell_of a.words) ≡ calling (cell_of words) a.call) × Promised a.words more
+Promised words (a ∷ more) = Leaves a.answer words a.words (calling (cell_of words) a.call) × Promised a.words more
 
 -- the last cell, and the history
 unfoldable pub handed : List ℕ → List Made → List Answered → Run

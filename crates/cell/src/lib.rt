@@ -1,8 +1,11 @@
 // The calls on a cell: start, open, close, seize, release and page. Document 01, "The cell and its calls" and "Paging". The cell is the words that the
 // caller lends, which `storage` reads and writes; `placing` has the tests of refusals 8 and 9, `onair` the calls line and who. allocation.rt has the
-// search in a cell allocation, subchannels.rt the subchannels of a line.
+// search in a cell allocation, subchannels.rt the subchannels of a line, value.rt the cell as a value.
+#![tactic(auto)]
+
 mod allocation;
 mod subchannels;
+pub mod value;
 
 ghost use Rattle.std.proofs.Math.Option.{some};
 ghost use Rattle.std.specs.Prelude.{◌≡◌};
@@ -10,6 +13,7 @@ ghost use Rattle.answers.specs.Outcome.{any_of};
 ghost use Rattle.answers.specs.Refusals.{refusal_of};
 ghost use Rattle.rules.specs.Calls.{open_range, refused_cell, start_of, open_of, close_of, seize_of, release_of, changed};
 ghost use Rattle.cell.specs.Helpers.{pass_of};
+ghost use Rattle.cell.specs.Leaves.{Leaves};
 ghost use Rattle.rules.specs.Paging.{page_of};
 ghost use Rattle.storage.specs.Words.{cell_of};
 ghost use Rattle.paging.specs.Answers.{paged};
@@ -65,7 +69,7 @@ pub fn open(
     combination: u32,
     tsc: u32,
 ) -> Answer
-    ensures { changed result (cell_of cell.new) ≡ open_of (cell_of cell.old) line (record { tn = tn; mask = mask; hsn = hsn; maio = maio; combination = combination; tsc = tsc }) }
+    ensures { Leaves result cell.old cell.new (open_of (cell_of cell.old) line (record { tn = tn; mask = mask; hsn = hsn; maio = maio; combination = combination; tsc = tsc })) }
 {
     if out_of_range(line, tn, hsn, combination, tsc) {
         return Answer::Refused(Refusal::OutOfRange);
@@ -93,7 +97,7 @@ pub fn open(
 
 // Line `line` is closed.
 pub fn close(cell: &mut [u32; WORDS], line: u32) -> Answer
-    ensures { changed result (cell_of cell.new) ≡ close_of (cell_of cell.old) line }
+    ensures { Leaves result cell.old cell.new (close_of (cell_of cell.old) line) }
 {
     if line > 63 {
         return Answer::Refused(Refusal::OutOfRange);
@@ -122,7 +126,7 @@ fn pass(
     to: u32,
     other: Refusal,
 ) -> Answer
-    ensures { changed result (cell_of cell.new) ≡ pass_of (cell_of cell.old) line s owner from to (refusal_of other) }
+    ensures { Leaves result cell.old cell.new (pass_of (cell_of cell.old) line s owner from to (refusal_of other)) }
 {
     if (line > 63) | bad_owner(owner) {
         return Answer::Refused(Refusal::OutOfRange);
@@ -144,14 +148,14 @@ fn pass(
 
 // Subchannel s of line `line`, if it is free, gets the owner.
 pub fn seize(cell: &mut [u32; WORDS], line: u32, s: u32, owner: u32) -> Answer
-    ensures { changed result (cell_of cell.new) ≡ seize_of (cell_of cell.old) line s owner }
+    ensures { Leaves result cell.old cell.new (seize_of (cell_of cell.old) line s owner) }
 {
     pass(cell, line, s, owner, 0, owner, Refusal::SubchannelHeld)
 }
 
 // Subchannel s of line `line`, if this owner holds it, is free again.
 pub fn release(cell: &mut [u32; WORDS], line: u32, s: u32, owner: u32) -> Answer
-    ensures { changed result (cell_of cell.new) ≡ release_of (cell_of cell.old) line s owner }
+    ensures { Leaves result cell.old cell.new (release_of (cell_of cell.old) line s owner) }
 {
     pass(cell, line, s, owner, owner, 0, Refusal::NotHolder)
 }
