@@ -11,10 +11,14 @@ examples =
       clash_with_line_1 = refl;
       bit_61_differs = refl;
       out_of_range = refl;
-      accepted = refl;
+      no_refusal = refl;
       frame_11 = refl;
       frame_12 = refl;
       past_the_last = refl;
       frame_51 = refl;
       t1_2048 = refl;
+      position_63 = refl;
+      no_position = refl;
+      arfcn_1023 = refl;
+      no_arfcn = refl;
     }

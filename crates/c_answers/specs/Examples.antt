@@ -1,17 +1,18 @@
 -- Some answers in plain numbers, computed: proofs/Examples.antt. Assumes nothing.
 use Rattle.std.specs.Prelude.{◌≡◌}
 use Rattle.std.proofs.Math.Option.{none, some}
+use Rattle.answers.specs.Outcome.{refused, accepted, alone}
 use Rattle.answers.specs.Refusals.{refusal_of}
 use Rattle.answers.specs.declared.Refusal.TheVariants.{OutOfRange, Clash, FixedBit}
 use Rattle.clock.specs.Clock.{split_of, join_of}
-use Rattle.c_answers.specs.Numbers.{answer_numbers, split_numbers, join_numbers}
+use Rattle.c_answers.specs.Numbers.{answer_numbers, split_numbers, join_numbers, position_numbers, hop_numbers}
 
 pub record Examples : Type 0 where
   -- "It comes alone, except 9 and 15": with the line in the way, and with the bit
   pub clash_with_line_1 : answer_numbers (some (refusal_of (Clash 1))) ≡ record { refusal = 9; value = 1 }
   pub bit_61_differs : answer_numbers (some (refusal_of (FixedBit 61))) ≡ record { refusal = 15; value = 61 }
   pub out_of_range : answer_numbers (some (refusal_of OutOfRange)) ≡ record { refusal = 3; value = 0 }
-  pub accepted : answer_numbers none ≡ record { refusal = 0; value = 0 }
+  pub no_refusal : answer_numbers none ≡ record { refusal = 0; value = 0 }
   -- T3' is given at T3 = 11 and not at T3 = 12
   pub frame_11 : split_numbers (split_of 11) ≡ record { refusal = 0; t1 = 0; t2 = 11; t3 = 11; given = 1; prime = 1 }
   pub frame_12 : split_numbers (split_of 12) ≡ record { refusal = 0; t1 = 0; t2 = 12; t3 = 12; given = 0; prime = 0 }
@@ -19,3 +20,8 @@ pub record Examples : Type 0 where
   pub past_the_last : split_numbers (split_of 2715648) ≡ record { refusal = 3; t1 = 0; t2 = 0; t3 = 0; given = 0; prime = 0 }
   pub frame_51 : join_numbers (join_of 0 25 0) ≡ record { refusal = 0; frame = 51 }
   pub t1_2048 : join_numbers (join_of 2048 0 0) ≡ record { refusal = 14; frame = 0 }
+  -- a position and an ARFCN, and none
+  pub position_63 : position_numbers (accepted 63) ≡ record { refusal = 0; position = 63 }
+  pub no_position : position_numbers (refused (alone 5)) ≡ record { refusal = 5; position = 0 }
+  pub arfcn_1023 : hop_numbers (accepted 1023) ≡ record { refusal = 0; arfcn = 1023 }
+  pub no_arfcn : hop_numbers (refused (alone 1)) ≡ record { refusal = 1; arfcn = 0 }

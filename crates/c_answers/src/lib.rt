@@ -1,4 +1,6 @@
 // The answers of the C interface as plain numbers.
+#![tactic(auto)]
+
 ghost use Rattle.std.specs.Prelude.{◌≡◌};
 ghost use Rattle.answers.specs.Outcome.{accepted};
 ghost use Rattle.answers.specs.Refusals.{refusal_of, refusal_in};
@@ -9,7 +11,7 @@ use clock::{Frame, Prime};
 
 // T1, T2, T3, and T3' where `given` is 1.
 #[repr(C)]
-#[derive(Drop)]
+#[derive(Clone, Copy)]
 pub struct TdmaSplit {
     pub refusal: u32,
     pub t1: u32,
@@ -20,21 +22,21 @@ pub struct TdmaSplit {
 }
 
 #[repr(C)]
-#[derive(Drop)]
+#[derive(Clone, Copy)]
 pub struct TdmaJoin {
     pub refusal: u32,
     pub frame: u32,
 }
 
 #[repr(C)]
-#[derive(Drop)]
+#[derive(Clone, Copy)]
 pub struct TdmaPosition {
     pub refusal: u32,
     pub position: u32,
 }
 
 #[repr(C)]
-#[derive(Drop)]
+#[derive(Clone, Copy)]
 pub struct TdmaHop {
     pub refusal: u32,
     pub arfcn: u32,
@@ -42,7 +44,7 @@ pub struct TdmaHop {
 
 // The channel, 0 for idle, its subchannel, and as many blocks and places as `blocks` says. Bytes, so that the answer fits one register.
 #[repr(C)]
-#[derive(Drop)]
+#[derive(Clone, Copy)]
 pub struct TdmaMap {
     pub refusal: u8,
     pub channel: u8,
@@ -56,7 +58,7 @@ pub struct TdmaMap {
 
 // The answer of a call whose result is in the lent words or bytes: the refusal, and with 9 the line in the way, with 15 the bit that differs.
 #[repr(C)]
-#[derive(Drop)]
+#[derive(Clone, Copy)]
 pub struct TdmaAnswer {
     pub refusal: u32,
     pub value: u32,
@@ -64,7 +66,7 @@ pub struct TdmaAnswer {
 
 // The ARFCN and the owner; the channel, 0 for idle, its subchannel, and as many blocks and places as `blocks` says.
 #[repr(C)]
-#[derive(Drop)]
+#[derive(Clone, Copy)]
 pub struct TdmaLine {
     pub refusal: u32,
     pub arfcn: u32,
@@ -80,7 +82,7 @@ pub struct TdmaLine {
 
 // The line that was found (`found` 1) and its answer, or nobody (0).
 #[repr(C)]
-#[derive(Drop)]
+#[derive(Clone, Copy)]
 pub struct TdmaWho {
     pub refusal: u32,
     pub found: u32,
@@ -90,7 +92,7 @@ pub struct TdmaWho {
 
 // A phone's timeslot and CCCH block, and the first frame of that.
 #[repr(C)]
-#[derive(Drop)]
+#[derive(Clone, Copy)]
 pub struct TdmaPage {
     pub refusal: u32,
     pub tn: u32,

@@ -1,5 +1,7 @@
-// The rows of document 01's drill sheet, asked of the library's C functions, and each answer checked; nothing is printed.
+// The rows of document 01's drill sheet, asked of the C interface's functions, and each answer checked; nothing is printed.
 // That every check holds is proved, from what the library promises and the fact DrillSheet.
+#![tactic(auto)]
+
 mod ask;
 mod expected;
 

@@ -1,2 +1,7 @@
 pub mod Lent
-pub mod Sought
+pub mod Numbers
+pub mod ThirdDemand
+pub mod ClockOfC
+pub mod BurstsOfC
+pub mod WhoOfC
+pub mod PageOfC

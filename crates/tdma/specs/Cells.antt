@@ -4,6 +4,7 @@ use Rattle.std.proofs.Math.Option.{Option, none, some}
 use Rattle.answers.specs.Outcome.{Outcome, refused, accepted}
 use Rattle.maps.specs.Numbers.{Numbers, no_numbers, standing_numbers}
 use Rattle.storage.specs.Words.{cell_of}
+use Rattle.cell.specs.Leaves.{Untouched}
 use Rattle.rules.specs.Calls.{Step}
 use Rattle.rules.specs.OnAir.{Slot}
 use Rattle.rules.specs.Who.{Match}
@@ -17,6 +18,10 @@ use Rattle.c_answers.specs.Numbers.{answer_numbers}
 -- the answer, and the cell that the words hold after a call, are the definition's
 abbrev pub Left : TdmaAnswer → List ℕ → Step → Type 0
 Left r words s = (r ≡ answer_numbers s.refusal) × (cell_of words ≡ s.cell)
+
+-- and where the call is refused, no word has changed
+abbrev pub Done : TdmaAnswer → List ℕ → List ℕ → Step → Type 0
+Done r before after s = Left r after s × Untouched s.refusal before after
 
 abbrev pub line_fields : ℕ → ℕ → Numbers → TdmaLine
 line_fields arfcn owner n =

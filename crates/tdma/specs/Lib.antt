@@ -1,2 +1,4 @@
 pub mod Buffers
 pub mod Cells
+pub mod OfC
+pub mod ThirdDemand

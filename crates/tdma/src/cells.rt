@@ -10,7 +10,7 @@ ghost use Rattle.onair.specs.Told.{slot_in};
 ghost use Rattle.rules.specs.Paging.{page_of};
 ghost use Rattle.rules.specs.Who.{who_of};
 ghost use Rattle.storage.specs.Words.{cell_of};
-ghost use Rattle.tdma.specs.Cells.{Left, line_fields, line_numbers, nobody, who_numbers, page_numbers};
+ghost use Rattle.tdma.specs.Cells.{Left, Done, line_fields, line_numbers, nobody, who_numbers, page_numbers};
 
 use c_answers::{TdmaAnswer, TdmaLine, TdmaPage, TdmaWho, answer_numbers, refusal_number};
 use maps::{Blocks, Burst, Content, Kind};
@@ -19,8 +19,7 @@ use paging::Paged;
 use storage::WORDS;
 
 // A cell with all lines closed.
-#[unsafe(no_mangle)]
-pub extern "C" fn tdma_start(
+pub fn tdma_start(
     cell: &mut [u32; WORDS],
     ca: &[u16],
     c0: u32,
@@ -34,8 +33,7 @@ pub extern "C" fn tdma_start(
 }
 
 // The line gets the six values.
-#[unsafe(no_mangle)]
-pub extern "C" fn tdma_open(
+pub fn tdma_open(
     cell: &mut [u32; WORDS],
     line: u32,
     tn: u32,
@@ -45,40 +43,27 @@ pub extern "C" fn tdma_open(
     combination: u32,
     tsc: u32,
 ) -> TdmaAnswer
-    ensures { Left result cell.new (open_of (cell_of cell.old) line (record { tn = tn; mask = mask; hsn = hsn; maio = maio; combination = combination; tsc = tsc })) }
+    ensures { Done result cell.old cell.new (open_of (cell_of cell.old) line (record { tn = tn; mask = mask; hsn = hsn; maio = maio; combination = combination; tsc = tsc })) }
 {
     answer_numbers(cell::open(cell, line, tn, mask, hsn, maio, combination, tsc))
 }
 
-#[unsafe(no_mangle)]
-pub extern "C" fn tdma_close(cell: &mut [u32; WORDS], line: u32) -> TdmaAnswer
-    ensures { Left result cell.new (close_of (cell_of cell.old) line) }
+pub fn tdma_close(cell: &mut [u32; WORDS], line: u32) -> TdmaAnswer
+    ensures { Done result cell.old cell.new (close_of (cell_of cell.old) line) }
 {
     answer_numbers(cell::close(cell, line))
 }
 
 // The subchannel, if it is free, gets the owner.
-#[unsafe(no_mangle)]
-pub extern "C" fn tdma_seize(
-    cell: &mut [u32; WORDS],
-    line: u32,
-    subchannel: u32,
-    owner: u32,
-) -> TdmaAnswer
-    ensures { Left result cell.new (seize_of (cell_of cell.old) line subchannel owner) }
+pub fn tdma_seize(cell: &mut [u32; WORDS], line: u32, subchannel: u32, owner: u32) -> TdmaAnswer
+    ensures { Done result cell.old cell.new (seize_of (cell_of cell.old) line subchannel owner) }
 {
     answer_numbers(cell::seize(cell, line, subchannel, owner))
 }
 
 // The subchannel, if this owner holds it, is free again.
-#[unsafe(no_mangle)]
-pub extern "C" fn tdma_release(
-    cell: &mut [u32; WORDS],
-    line: u32,
-    subchannel: u32,
-    owner: u32,
-) -> TdmaAnswer
-    ensures { Left result cell.new (release_of (cell_of cell.old) line subchannel owner) }
+pub fn tdma_release(cell: &mut [u32; WORDS], line: u32, subchannel: u32, owner: u32) -> TdmaAnswer
+    ensures { Done result cell.old cell.new (release_of (cell_of cell.old) line subchannel owner) }
 {
     answer_numbers(cell::release(cell, line, subchannel, owner))
 }
@@ -162,8 +147,7 @@ fn slot_numbers(a: OnAir) -> TdmaLine
 }
 
 // What the line sends in a frame, downlink (0) or uplink (1).
-#[unsafe(no_mangle)]
-pub extern "C" fn tdma_line(cell: &[u32; WORDS], line: u32, frame: u32, direction: u32) -> TdmaLine
+pub fn tdma_line(cell: &[u32; WORDS], line: u32, frame: u32, direction: u32) -> TdmaLine
     ensures { result ≡ line_numbers (line_of (cell_of cell.now) line frame direction) }
 {
     match onair::line(cell, line, frame, direction) {
@@ -185,22 +169,15 @@ fn no_line(refusal: u32) -> TdmaWho
 }
 
 // Who is on the air in a timeslot, on an ARFCN and in a frame, downlink (0) or uplink (1).
-#[unsafe(no_mangle)]
-pub extern "C" fn tdma_who(
-    cell: &[u32; WORDS],
-    tn: u32,
-    arfcn: u32,
-    frame: u32,
-    direction: u32,
-) -> TdmaWho
+pub fn tdma_who(cell: &[u32; WORDS], tn: u32, arfcn: u32, frame: u32, direction: u32) -> TdmaWho
     ensures { result ≡ who_numbers (who_of (cell_of cell.now) tn arfcn frame direction) }
 {
     match onair::who(cell, tn, arfcn, frame, direction) {
-        Sought::Line(line) => TdmaWho {
+        Sought::Line(f) => TdmaWho {
             refusal: 0,
             found: 1,
-            line,
-            answer: tdma_line(cell, line, frame, direction),
+            line: f.line,
+            answer: slot_numbers(f.on_air),
         },
         Sought::Nobody => no_line(0),
         Sought::Refused(e) => no_line(refusal_number(e)),
@@ -208,8 +185,7 @@ pub extern "C" fn tdma_who(
 }
 
 // Where and when a phone with this IMSI is paged.
-#[unsafe(no_mangle)]
-pub extern "C" fn tdma_page(cell: &[u32; WORDS], digits: &[u8], frame: u32) -> TdmaPage
+pub fn tdma_page(cell: &[u32; WORDS], digits: &[u8], frame: u32) -> TdmaPage
     ensures { result ≡ page_numbers (page_of (cell_of cell.now) digits.now frame) }
 {
     match cell::page(cell, digits, frame) {

@@ -1,6 +1,8 @@
 // The C interface, include/tdma.h: plain numbers, slices and cells in, structs of numbers out. `refusal` is 0 for an accepted call, else document
 // 01's number, and then every other number is 0 (but for the line of 9 and the bit of 15). specs/Numbers.antt, Cells.antt and Buffers.antt say so for
 // each answer. The calls of the cell are in cells.rt, the bursts in buffers.rt.
+#![tactic(auto)]
+
 pub mod buffers;
 pub mod cells;
 
@@ -15,8 +17,7 @@ use clock::{Frame, Joined, Split};
 use hopping::{Hopped, Positioned};
 
 // FN to T1, T2, T3 and T3'.
-#[unsafe(no_mangle)]
-pub extern "C" fn tdma_split(frame: u32) -> TdmaSplit
+pub fn tdma_split(frame: u32) -> TdmaSplit
     ensures { result ≡ split_numbers (split_of frame) }
 {
     match Frame::new(frame) {
@@ -33,8 +34,7 @@ pub extern "C" fn tdma_split(frame: u32) -> TdmaSplit
 }
 
 // T1, T2, T3 to FN.
-#[unsafe(no_mangle)]
-pub extern "C" fn tdma_join(t1: u32, t2: u32, t3: u32) -> TdmaJoin
+pub fn tdma_join(t1: u32, t2: u32, t3: u32) -> TdmaJoin
     ensures { result ≡ join_numbers (join_of t1 t2 t3) }
 {
     match Frame::join(t1, t2, t3) {
@@ -50,14 +50,7 @@ pub extern "C" fn tdma_join(t1: u32, t2: u32, t3: u32) -> TdmaJoin
 }
 
 // The position that a line uses in a frame, in a cell allocation of this length.
-#[unsafe(no_mangle)]
-pub extern "C" fn tdma_position(
-    length: u32,
-    mask: u64,
-    hsn: u32,
-    maio: u32,
-    frame: u32,
-) -> TdmaPosition
+pub fn tdma_position(length: u32, mask: u64, hsn: u32, maio: u32, frame: u32) -> TdmaPosition
     ensures { result ≡ position_numbers (position_of length mask hsn maio frame) }
 {
     match hopping::position(length, mask, hsn, maio, frame) {
@@ -73,8 +66,7 @@ pub extern "C" fn tdma_position(
 }
 
 // The ARFCN that a line uses in a frame.
-#[unsafe(no_mangle)]
-pub extern "C" fn tdma_hop(ca: &[u16], mask: u64, hsn: u32, maio: u32, frame: u32) -> TdmaHop
+pub fn tdma_hop(ca: &[u16], mask: u64, hsn: u32, maio: u32, frame: u32) -> TdmaHop
     ensures { result ≡ hop_numbers (hop_of ca.now mask hsn maio frame) }
 {
     match hopping::hop(ca, mask, hsn, maio, frame) {
@@ -98,8 +90,7 @@ fn byte(bytes: u64, i: u32) -> u8
 }
 
 // What a line of this combination and timeslot has in a frame, downlink (0) or uplink (1).
-#[unsafe(no_mangle)]
-pub extern "C" fn tdma_map(combination: u32, tn: u32, frame: u32, direction: u32) -> TdmaMap
+pub fn tdma_map(combination: u32, tn: u32, frame: u32, direction: u32) -> TdmaMap
     ensures { result ≡ map_numbers (map_of combination tn frame direction) }
 {
     let bytes = frame_map::map_bytes(combination, tn, frame, direction);
