@@ -1,4 +1,6 @@
 // The words that name a command or a burst, by number in the order of the format's table; 0 for any other word.
+#![tactic(auto)]
+
 ghost use Rattle.std.specs.Prelude.{◌≡◌, drop};
 ghost use Rattle.wording.specs.Names.{place_among, commands, command_of, burst_of};
 

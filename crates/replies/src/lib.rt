@@ -1,4 +1,6 @@
 // What each answer of the program `schedule` reads like, written to a lent buffer from a place on; the result is where it ends.
+#![tactic(auto)]
+
 ghost use Rattle.std.specs.Prelude.{◌≡◌, cond, ltb, ◌≤◌, length};
 ghost use Rattle.wording.specs.Print.{Appended};
 ghost use Rattle.wording.specs.Replies.{has_value, refused_text, numbers_text, split_text, channel_text, content_text, map_text, slot_text, line_text, who_text, bits_text, reason_text, error_text};

@@ -6,7 +6,7 @@ use text::print::put;
 use text::words::{Next, find, next_word};
 
 // Where the program stands.
-#[derive(Drop)]
+#[derive(Clone, Copy)]
 pub(crate) struct State {
     // How many lines there were.
     pub(crate) number: u64,
@@ -32,7 +32,7 @@ pub(crate) fn is_silent(line: &[u8]) -> bool {
 }
 
 // A command's number, and where its word ends.
-#[derive(Drop)]
+#[derive(Clone, Copy)]
 struct Command {
     number: u32,
     end: usize,
@@ -117,7 +117,7 @@ pub(crate) fn one(
 }
 
 // Where the whole lines end.
-#[derive(Drop)]
+#[derive(Clone, Copy)]
 pub(crate) struct Lines {
     pub(crate) end: usize,
     pub(crate) state: State,

@@ -8,7 +8,7 @@ use text::words::{Next, next_word};
 pub(crate) const MOST: usize = 256;
 
 // How many figures there are, and where the word ends; or the reason, if `reason` is not 0.
-#[derive(Drop)]
+#[derive(Clone, Copy)]
 pub(crate) struct Figures {
     pub(crate) reason: u32,
     pub(crate) count: usize,

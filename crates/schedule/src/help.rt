@@ -92,8 +92,8 @@ Other answers:
     )
 }
 
-pub(crate) fn print() {
-    let output = show_usage(output::nothing());
+pub(crate) fn print(rt: HostRuntime) {
+    let output = show_usage(output::nothing(rt));
     let output = show_commands(output);
     show_other_answers(output);
 }

@@ -2,17 +2,17 @@
 use crate::answering::State;
 use crate::{answering, least, output};
 use replies::error;
+use std::io;
+use std::io::Read;
 use storage::WORDS;
 use text::numbers::LINE_TOO_LONG;
 
-#[derive(Drop)]
+#[derive(Clone, Copy)]
 struct Input {
     // How many bytes at the start of the buffer wait: a line that has no end yet.
     filled: usize,
     // There may be more.
     more: bool,
-    // It could not be read.
-    failed: bool,
     state: State,
 }
 
@@ -33,16 +33,14 @@ fn paused(filled: usize, out: &[u8], state: State) -> Input {
     Input {
         filled,
         more: !output.failed,
-        failed: false,
         state,
     }
 }
 
-fn ended(state: State, failed: bool) -> Input {
+fn ended(state: State) -> Input {
     Input {
         filled: 0,
         more: false,
-        failed,
         state,
     }
 }
@@ -93,10 +91,9 @@ fn rest(buffer: &mut [u8], from: usize, filled: usize, out: &mut [u8], state: St
     paused(0, out, state)
 }
 
-// How far the buffer is filled after a read, and whether there may be more to read; or the read failed.
-#[derive(Drop)]
+// How far the buffer is filled after a read, and whether there may be more to read.
+#[derive(Clone, Copy)]
 struct Fill {
-    failed: bool,
     more: bool,
     filled: usize,
 }
@@ -114,22 +111,19 @@ fn end_line(buffer: &mut [u8], filled: usize) -> usize {
 }
 
 // One read, into what of the buffer is free.
-fn read_more(fd: i32, buffer: &mut [u8], waiting: usize) -> Fill {
+fn read_more<R: Read>(file: &mut R, buffer: &mut [u8], waiting: usize) -> io::Result<Fill> {
     let start = least(waiting, buffer.len());
-    let got = libc::read(fd, &mut buffer[start..]);
-    let n = io::count(got, &buffer[start..]);
+    let n = file.read(&mut buffer[start..])?;
     if n == 0 {
-        return Fill {
-            failed: got < 0,
+        return Ok(Fill {
             more: false,
             filled: end_line(buffer, start),
-        };
+        });
     }
-    Fill {
-        failed: false,
+    Ok(Fill {
         more: true,
         filled: start + n,
-    }
+    })
 }
 
 // The answers to all lines that are whole.
@@ -148,50 +142,45 @@ fn answered(
 }
 
 // One read, and the answers to all lines that are whole then. A read that fails ends the input, and its line is not answered.
-fn turn(
-    fd: i32,
+fn turn<R: Read>(
+    file: &mut R,
     buffer: &mut [u8],
     input: Input,
     cell: &mut [u32; WORDS],
     list: &mut [u16],
     out: &mut [u8],
-) -> Input {
-    let state = input.state;
-    let fill = read_more(fd, buffer, input.filled);
-    if fill.failed {
-        return ended(state, true);
-    }
-    let next = answered(buffer, fill.filled, state, cell, list, out);
+) -> io::Result<Input> {
+    let fill = read_more(file, buffer, input.filled)?;
+    let next = answered(buffer, fill.filled, input.state, cell, list, out);
     if fill.more {
-        return next;
+        return Ok(next);
     }
-    let state = next.state;
-    ended(state, false)
+    Ok(ended(next.state))
 }
 
-// Reads to the end, and answers whether the input could be read. A loop has to end, and nothing says that the input does: it counts its turns down
-// from a number that no run uses up.
-pub(crate) fn read_all(
-    fd: i32,
+// Reads to the end. A loop has to end, and nothing says that the input does: its turns have a bound that no run uses up.
+pub(crate) fn read_all<R: Read>(
+    rt: HostRuntime,
+    file: &mut R,
     buffer: &mut [u8],
     cell: &mut [u32; WORDS],
     list: &mut [u16],
     out: &mut [u8],
-) -> bool {
+) -> io::Result<()> {
     let mut input = Input {
         filled: 0,
         more: true,
-        failed: false,
         state: State {
             number: 0,
             long: false,
-            output: output::nothing(),
+            output: output::nothing(rt),
         },
     };
-    let mut turns = u64::MAX;
-    while turns > 0 && input.more {
-        input = turn(fd, buffer, input, cell, list, out);
-        turns -= 1;
+    for _ in 0..u64::MAX {
+        if !input.more {
+            break;
+        }
+        input = turn(file, buffer, input, cell, list, out)?;
     }
-    !input.failed
+    Ok(())
 }

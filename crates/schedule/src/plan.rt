@@ -2,14 +2,14 @@
 use crate::answering::State;
 use crate::{answering, no_cell, output};
 
-pub(crate) fn run() {
+pub(crate) fn run(rt: HostRuntime) {
     let mut cell = no_cell();
     let mut list = [0u16; 64];
     let mut out = [0u8; 65536];
     let state = State {
         number: 0,
         long: false,
-        output: output::nothing(),
+        output: output::nothing(rt),
     };
     let lines = answering::all(
         &mut cell,
@@ -19,7 +19,7 @@ start 10 3 1 5 10 20 30 40 50 60
 open 0 0 1 0 0 5 3
 # Line 1: eight SDCCHs.
 open 1 1 2 0 0 7 3
-# Lines 2 and 3: full_rate traffic that hops; line 4: half_rate traffic.
+# Lines 2 and 3: full-rate traffic that hops; line 4: half-rate traffic.
 open 2 2 62 17 0 1 3
 open 3 2 62 17 1 1 3
 open 4 2 62 17 2 2 3

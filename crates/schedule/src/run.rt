@@ -10,7 +10,7 @@ use text::numbers;
 use text::numbers::narrow;
 
 // Numbers as the calls take them: each as 32 bits hold it, and the third one whole, for a mask.
-#[derive(Drop)]
+#[derive(Clone, Copy)]
 pub(crate) struct Arguments {
     pub(crate) first: u32,
     pub(crate) second: u32,

@@ -10,7 +10,7 @@ use text::numbers::narrow;
 use text::words::{Next, next_word};
 
 // The burst that a word names, and where the word ends; or the reason, if `reason` is not 0.
-#[derive(Drop)]
+#[derive(Clone, Copy)]
 struct Named {
     reason: u32,
     burst: u32,
@@ -41,7 +41,7 @@ fn is_burst(command: u32, burst: u32) -> bool {
 }
 
 // The training sequence code of a normal burst, 0 for another, and where the words before the bits end; or the reason, if `reason` is not 0.
-#[derive(Drop)]
+#[derive(Clone, Copy)]
 struct Training {
     reason: u32,
     tsc: u32,
@@ -65,7 +65,7 @@ fn code_at(line: &[u8], from: usize, burst: u32) -> Training {
 }
 
 // The burst, its training sequence code, and how many bits are given; or the reason, if `reason` is not 0.
-#[derive(Drop)]
+#[derive(Clone, Copy)]
 struct Words {
     reason: u32,
     burst: u32,

@@ -10,7 +10,7 @@ use text::numbers::narrow;
 
 // Four numbers as the calls take them, the first one whole, too, for a mask; and how many there are in the list after them. Or the reason, if `reason`
 // is not 0.
-#[derive(Drop)]
+#[derive(Clone, Copy)]
 struct Listed {
     reason: u32,
     mask: u64,
@@ -87,7 +87,7 @@ pub(crate) fn of_list(
 }
 
 // How many digits the IMSI has, and the frame; or the reason, if `reason` is not 0.
-#[derive(Drop)]
+#[derive(Clone, Copy)]
 struct Paged {
     reason: u32,
     count: usize,

@@ -12,7 +12,7 @@ use text::print::{put, put_numbers};
 const FRAMES: u32 = 2715648;
 
 // The first `count` are the numbers of lines.
-#[derive(Drop)]
+#[derive(Clone, Copy)]
 struct Open {
     lines: [u32; 64],
     count: usize,

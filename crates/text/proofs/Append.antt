@@ -1,9 +1,9 @@
 -- Laws of the bytes of a text that a loop writes, one at a time, and of numbers in a row. Assumes nothing.
-use Prim.Native.Nat.{ℕ, zero, suc, ◌+◌, ◌-◌, ◌≤◌, ◌<◌, min}
+use Prim.Native.Nat.{ℕ, zero, suc, ◌+◌, ◌-◌, ◌<◌, min}
 use mathlib.Core.Path.{◌≡◌, refl, sym, ap, ◌∙◌}
 use mathlib.Core.Bool.{Bool, true, false}
 use mathlib.Core.List.{List, [], ◌∷◌, ◌++◌, map, append_assoc, append-nil}
-use native.Mathlib.Nat.{add-zero, not-suc-le-zero, le_of_suc-le-suc}
+use native.Mathlib.Nat.{not-suc-le-zero, le_of_suc-le-suc}
 use native.Mathlib.Numerals.{add-one}
 use native.Mathlib.Omega.{arith}
 use lib.Dec.{leb}
@@ -44,18 +44,15 @@ appended_nothing b at start hs = record {
 
 module _ (b text : List ℕ) (start : ℕ) (now : List ℕ) (i v : ℕ) where
   -- a turn of the loop
-  pub put_more : length now ≡ length b → start + i < length b → i < length text → take (start + i) now ≡ take start b ++ take i text → v ≡ get_or text i 0
+  pub put-more : length now ≡ length b → start + i < length b → i < length text → take (start + i) now ≡ take start b ++ take i text → v ≡ get_or text i 0
       → take (start + (i + 1)) (set now (start + i) v) ≡ take start b ++ take (i + 1) text
-  put_more hl h ht e ev =
+  put-more hl h ht e ev =
       let e' : start + (i + 1) ≡ suc (start + i) = omega arith in
       ap (λ (k : ℕ). take k (set now (start + i) v)) e'
       ∙ take-suc-set now (start + i) v (omega (arith, hl, h))
       ∙ ap (λ (s : List ℕ). s ++ (v ∷ [])) e
       ∙ append_assoc (take start b) (take i text) (v ∷ [])
       ∙ ap (λ (s : List ℕ). take start b ++ s) (ap (λ (x : ℕ). take i text ++ (x ∷ [])) ev ∙ sym (rw (add-one i) (take-suc text i 0 ht)))
-
-pub put_first : (b text : List ℕ) (start : ℕ) → take (start + 0) b ≡ take start b ++ take 0 text
-put_first b text start = ap (λ (k : ℕ). take k b) (add-zero start) ∙ sym (append-nil (take start b))
 
 -- the loop's end
 pub put_all : (b text now : List ℕ) (at start n i : ℕ) → start ≡ min at (length b) → n ≡ min (length text) (length b - start) → i ≡ n → length now ≡ length b
@@ -68,25 +65,22 @@ put_all b text now at start n i hs hn hi hl e = record {
 
 -- ---- numbers with a space before each
 
-spaced_append : (ns ms : List ℕ) → spaced (ns ++ ms) ≡ spaced ns ++ spaced ms
+spaced-append : (ns ms : List ℕ) → spaced (ns ++ ms) ≡ spaced ns ++ spaced ms
 unfolding spaced
-spaced_append [] ms = refl
-spaced_append (n ∷ ns) ms = ap (λ (s : List ℕ). (32 ∷ decimal n) ++ s) (spaced_append ns ms) ∙ sym (append_assoc (32 ∷ decimal n) (spaced ns) (spaced ms))
+spaced-append [] ms = refl
+spaced-append (n ∷ ns) ms = ap (λ (s : List ℕ). (32 ∷ decimal n) ++ s) (spaced-append ns ms) ∙ sym (append_assoc (32 ∷ decimal n) (spaced ns) (spaced ms))
 
-spaced_one : (n : ℕ) → spaced (n ∷ []) ≡ (32 ∷ []) ++ decimal n
+spaced-one : (n : ℕ) → spaced (n ∷ []) ≡ (32 ∷ []) ++ decimal n
 unfolding spaced
-spaced_one n = append-nil (32 ∷ decimal n)
+spaced-one n = append-nil (32 ∷ decimal n)
 
-pub spaced_more : (l : List ℕ) (i n : ℕ) → i < length l → n ≡ get_or l i 0 → spaced (take i l) ++ (32 ∷ []) ++ decimal n ≡ spaced (take (i + 1) l)
-spaced_more l i n h e =
+pub spaced-more : (l : List ℕ) (i n : ℕ) → i < length l → n ≡ get_or l i 0 → spaced (take i l) ++ (32 ∷ []) ++ decimal n ≡ spaced (take (i + 1) l)
+spaced-more l i n h e =
     append_assoc (spaced (take i l)) (32 ∷ []) (decimal n)
-    ∙ ap (λ (s : List ℕ). spaced (take i l) ++ s) (sym (spaced_one n))
-    ∙ sym (spaced_append (take i l) (n ∷ []))
+    ∙ ap (λ (s : List ℕ). spaced (take i l) ++ s) (sym (spaced-one n))
+    ∙ sym (spaced-append (take i l) (n ∷ []))
     ∙ ap (λ (m : ℕ). spaced (take i l ++ (m ∷ []))) e
     ∙ ap spaced (sym (rw (add-one i) (take-suc l i 0 h)))
-
-pub spaced_all : (l : List ℕ) (i : ℕ) → length l ≤ i → spaced (take i l) ≡ spaced l
-spaced_all l i h = ap spaced (take_all i l h)
 
 -- ---- an element of a list that a function went over
 

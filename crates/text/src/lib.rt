@@ -1,4 +1,6 @@
 // Text on slices of bytes: the words of a line and the numbers among them (words.rt, numbers.rt), and what is written to a lent buffer (print.rt).
+#![tactic(auto)]
+
 pub mod numbers;
 pub mod print;
 pub mod words;

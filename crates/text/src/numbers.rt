@@ -86,7 +86,7 @@ pub fn number(word: &[u8]) -> Numeral
     value(word)
 }
 
-#[derive(Drop)]
+#[derive(Clone, Copy)]
 enum Took {
     // The number that the next word is, and where the word ends.
     Number(u64, usize),
@@ -111,7 +111,7 @@ fn number_at(line: &[u8], from: usize) -> Took
 }
 
 // As many numbers as were asked for, and where the last one ends; or the reason, if `reason` is not 0.
-#[derive(Drop)]
+#[derive(Clone, Copy)]
 pub struct Values {
     pub reason: u32,
     pub values: [u64; 7],
@@ -189,7 +189,7 @@ pub fn narrow(n: u64) -> u32
 }
 
 // How many numbers there were; or the reason, if `reason` is not 0.
-#[derive(Drop)]
+#[derive(Clone, Copy)]
 pub struct Listed {
     pub reason: u32,
     pub count: usize,

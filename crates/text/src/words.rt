@@ -31,7 +31,7 @@ pub fn pass(text: &[u8], from: usize, byte: u8) -> usize
     i
 }
 
-#[derive(Drop)]
+#[derive(Clone, Copy)]
 pub enum Next {
     // From `start` up to, not including, `end`.
     Word(usize, usize),

@@ -1,4 +1,6 @@
 // The parts of a timetable: its head, the titles of its columns, and in each row the frame and what each line has there.
+#![tactic(auto)]
+
 ghost use Rattle.wording.specs.Print.{Appended, left};
 ghost use Rattle.wording.specs.Replies.{channel_text};
 ghost use Rattle.wording.specs.Table.{direction_text, head_text, title_text, frame_text, holder_text, block_text, cell_text};

@@ -1,3 +1,4 @@
+pub mod Claims
 pub mod Words
 pub mod Numbers
 pub mod Print

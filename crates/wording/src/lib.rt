@@ -1,7 +1,8 @@
 // The wording of the program `schedule`: a line's words and the numbers among them, and what each answer reads like. Definitions in specs/, theorems in proofs/; no functions.
+#![tactic(auto)]
 
 // The number that a word is.
-#[derive(Drop)]
+#[derive(Clone, Copy)]
 pub enum Numeral {
     Value(u64),
     // Some character is no digit, or there is none.
