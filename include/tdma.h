@@ -24,7 +24,7 @@
  *
  * The functions keep no state, allocate nothing and can be called from any thread. Cells and buffers
  * belong to the caller and are lent for the call alone: no pointer is kept.
- * Build the library with `rt staticlib tdma` and link target/staticlib/libtdma.a (x86-64).
+ * Build the library with `bash make` and link target/lib/libtdma.a (x86-64-v2: it uses popcnt).
  */
 #ifndef TDMA_H
 #define TDMA_H

@@ -1,4 +1,4 @@
-// Links the library under test, which `rt staticlib tdma` writes, and reads the size of its cell.
+// Links the library under test, which `bash make` writes, and reads the size of its cell.
 use std::fs;
 use std::path::{Path, PathBuf};
 
@@ -24,11 +24,11 @@ fn main() {
     let here = PathBuf::from(std::env::var("CARGO_MANIFEST_DIR").unwrap());
     let words = cell_words(&here.join("..").join(SOURCE));
     println!("cargo:rustc-env=LIBRARY_CELL_WORDS={words}");
-    let folder = here.join("../target/staticlib");
+    let folder = here.join("../target/lib");
     let library = folder.join("libtdma.a");
     println!("cargo:rerun-if-changed={}", library.display());
     if !library.exists() {
-        panic!("target/staticlib/libtdma.a is missing: run `rt staticlib tdma` first");
+        panic!("target/lib/libtdma.a is missing: run `bash make` first");
     }
     println!("cargo:rustc-link-search=native={}", folder.display());
     // Not copied into the second implementation's own archive, which C links beside the library.
