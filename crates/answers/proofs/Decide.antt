@@ -13,7 +13,7 @@ use borrow.Author.Tests.{ltb-true}
 use lib.Dec.{ltb}
 use Rattle.answers.specs.Outcome.{Refused, Outcome, refused, accepted, alone, Cause, any_of, decide, ascending, ascending_from}
 use Rattle.answers.specs.Claims.{Caused, None, NoCause, FairAnswer, Decides}
-use Rattle.answers.proofs.Tests.{and_left, and_right, or_left, or_right, or-none, or-false, not-both}
+use Rattle.answers.proofs.Tests.{and_left, and_right, or_left, or_right, or_none, or_false, not_both}
 
 -- ---- at a call's returns
 
@@ -29,16 +29,16 @@ holds i [] h = absurd h
 holds zero (b ∷ bs) h = or_left (any_of bs) h
 holds (suc i) (b ∷ bs) h = or_right b (holds i bs h)
 
-pub none-holds : (bs : List Bool) → None bs → any_of bs ≡ false
+pub none_holds : (bs : List Bool) → None bs → any_of bs ≡ false
 unfolding any_of
-none-holds [] h = refl
-none-holds (b ∷ bs) h = or-none h.0 (none-holds bs h.1)
+none_holds [] h = refl
+none_holds (b ∷ bs) h = or_none h.0 (none_holds bs h.1)
 
-pub holds-none : (bs : List Bool) → any_of bs ≡ false → None bs
+pub holds_none : (bs : List Bool) → any_of bs ≡ false → None bs
 unfolding any_of
-holds-none [] h = tt
-holds-none (true ∷ bs) h = not-both refl h
-holds-none (false ∷ bs) h = (refl, holds-none bs h)
+holds_none [] h = tt
+holds_none (true ∷ bs) h = not_both refl h
+holds_none (false ∷ bs) h = (refl, holds_none bs h)
 
 -- the conditions as code combines them: nothing follows the last
 abbrev pub combined : List Bool → Bool
@@ -46,11 +46,11 @@ combined [] = false
 combined (b ∷ []) = b
 combined (b ∷ d ∷ bs) = b || combined (d ∷ bs)
 
-pub any-combined : (bs : List Bool) → combined bs ≡ any_of bs
+pub any_combined : (bs : List Bool) → combined bs ≡ any_of bs
 unfolding any_of
-any-combined [] = refl
-any-combined (b ∷ []) = sym (or-false b)
-any-combined (b ∷ d ∷ bs) = ap (λ (t : Bool). b || t) (any-combined (d ∷ bs))
+any_combined [] = refl
+any_combined (b ∷ []) = sym (or_false b)
+any_combined (b ∷ d ∷ bs) = ap (λ (t : Bool). b || t) (any_combined (d ∷ bs))
 
 module _ {A : Type 0} (c : Cause) (cs : List Cause) (answer : A) where
   -- the first cause applies: it refuses
@@ -67,7 +67,7 @@ module _ {A : Type 0} (c : Cause) (cs : List Cause) (answer : A) where
   stops i h = first (holds i c.conditions h)
 
   pub passes : None c.conditions → decide (c ∷ cs) answer ≡ decide cs answer
-  passes h = rest (none-holds c.conditions h)
+  passes h = rest (none_holds c.conditions h)
 
 -- no cause is left
 pub accepts : {A : Type 0} (answer : A) → decide [] answer ≡ accepted answer
@@ -83,17 +83,17 @@ decided (c ∷ cs) answer P bad good = go (any_of c.conditions) refl (decided cs
   where
     go : (b : Bool) → any_of c.conditions ≡ b → ((NoCause cs → P (accepted answer)) → P (decide cs answer)) → P (cond b (refused c.refusal) (decide cs answer))
     go true e more = bad c.refusal
-    go false e more = more (λ w. good (holds-none c.conditions e, w))
+    go false e more = more (λ w. good (holds_none c.conditions e, w))
 
 -- a call whose answer is computed from another's, for the same causes
 abbrev pub answered : {A B : Type 0} → (A → B) → Outcome A → Outcome B
 answered f (refused r) = refused r
 answered f (accepted a) = accepted (f a)
 
-pub decide-answered : {A B : Type 0} (f : A → B) (cs : List Cause) (a : A) → decide cs (f a) ≡ answered f (decide cs a)
+pub decide_answered : {A B : Type 0} (f : A → B) (cs : List Cause) (a : A) → decide cs (f a) ≡ answered f (decide cs a)
 unfolding decide
-decide-answered f [] a = refl
-decide-answered f (c ∷ cs) a = go (any_of c.conditions) (decide-answered f cs a)
+decide_answered f [] a = refl
+decide_answered f (c ∷ cs) a = go (any_of c.conditions) (decide_answered f cs a)
   where
     go : (t : Bool) → decide cs (f a) ≡ answered f (decide cs a)
         → cond t (refused c.refusal) (decide cs (f a)) ≡ answered f (cond t (refused c.refusal) (decide cs a))
@@ -120,14 +120,14 @@ refusal_at zero (c ∷ cs) = c.refusal
 refusal_at (suc i) (c ∷ cs) = refusal_at i cs
 
 module _ {A : Type 0} (answer : A) where
-  pub refused-by : (i : ℕ) (cs : List Cause) → Applies i cs → refused (refusal_at i cs) ≡ decide cs answer
-  refused-by i [] h = absurd h
-  refused-by zero (c ∷ cs) h = sym (first c cs answer (sym (any-combined c.conditions) ∙ h))
-  refused-by (suc i) (c ∷ cs) h = refused-by i cs h.1 ∙ sym (rest c cs answer (sym (any-combined c.conditions) ∙ h.0))
+  pub refused_by : (i : ℕ) (cs : List Cause) → Applies i cs → refused (refusal_at i cs) ≡ decide cs answer
+  refused_by i [] h = absurd h
+  refused_by zero (c ∷ cs) h = sym (first c cs answer (sym (any_combined c.conditions) ∙ h))
+  refused_by (suc i) (c ∷ cs) h = refused_by i cs h.1 ∙ sym (rest c cs answer (sym (any_combined c.conditions) ∙ h.0))
 
-  pub accepted-by : (cs : List Cause) → NoneApplies cs → accepted answer ≡ decide cs answer
-  accepted-by [] h = sym (accepts answer)
-  accepted-by (c ∷ cs) h = accepted-by cs h.1 ∙ sym (rest c cs answer (sym (any-combined c.conditions) ∙ h.0))
+  pub accepted_by : (cs : List Cause) → NoneApplies cs → accepted answer ≡ decide cs answer
+  accepted_by [] h = sym (accepts answer)
+  accepted_by (c ∷ cs) h = accepted_by cs h.1 ∙ sym (rest c cs answer (sym (any_combined c.conditions) ∙ h.0))
 
 -- ---- for the reader
 
@@ -146,20 +146,20 @@ above n (d ∷ ds) h c m =
 
 module _ {A : Type 0} (answer : A) where
   -- a call is refused only for a cause of its list
-  pub refused-has-cause : (cs : List Cause) (r : Refused) → decide cs answer ≡ refused r → Caused cs r
-  refused-has-cause [] r h = absurd (let z : ◌≡◌ {A = ℕ} 0 1 = cc (accepts answer) in omega arith)
-  refused-has-cause (c ∷ cs) r h = go (any_of c.conditions) refl (refused-has-cause cs r)
+  pub refused_has_cause : (cs : List Cause) (r : Refused) → decide cs answer ≡ refused r → Caused cs r
+  refused_has_cause [] r h = absurd (let z : ◌≡◌ {A = ℕ} 0 1 = cc (accepts answer) in omega arith)
+  refused_has_cause (c ∷ cs) r h = go (any_of c.conditions) refl (refused_has_cause cs r)
     where
       go : (t : Bool) → any_of c.conditions ≡ t → (decide cs answer ≡ refused r → Caused cs r) → Caused (c ∷ cs) r
       go true e more = record { of = c; member = Memᴰ.head refl; applies = e; same = cc (first c cs answer e) }
       go false e more = later c cs r (more (sym (rest c cs answer e) ∙ h))
 
   -- and its number is the lowest of those that apply
-  pub refused-is-lowest : (n : ℕ) (cs : List Cause) (r : Refused) → ascending_from n cs ≡ true → decide cs answer ≡ refused r
+  pub refused_is_lowest : (n : ℕ) (cs : List Cause) (r : Refused) → ascending_from n cs ≡ true → decide cs answer ≡ refused r
       → (c : Cause) → Memᴰ c cs → any_of c.conditions ≡ true → r.number ≤ c.refusal.number
   unfolding ascending_from
-  refused-is-lowest n [] r a h c m t = absurd (Memᴰ.not-nil m)
-  refused-is-lowest n (d ∷ ds) r a h c m t = go (any_of d.conditions) refl (refused-is-lowest _ ds r (and_right (ltb n d.refusal.number) _ a))
+  refused_is_lowest n [] r a h c m t = absurd (Memᴰ.not-nil m)
+  refused_is_lowest n (d ∷ ds) r a h c m t = go (any_of d.conditions) refl (refused_is_lowest _ ds r (and_right (ltb n d.refusal.number) _ a))
     where
       Low : Type 0
       Low = r.number ≤ c.refusal.number
@@ -175,19 +175,19 @@ module _ {A : Type 0} (answer : A) where
           (λ w. le_of_lt (above _ ds (and_right (ltb n d.refusal.number) _ a) c w))
           (Memᴰ.cases_cons m))
       go false e more =
-          ⊎_elim (λ q. not-both t (ap (λ (x : Cause). any_of x.conditions) q ∙ e))
+          ⊎_elim (λ q. not_both t (ap (λ (x : Cause). any_of x.conditions) q ∙ e))
           (λ w. more (sym (rest d ds answer e) ∙ h) c w t)
           (Memᴰ.cases_cons m)
 
   -- an accepted call had no cause, and gives the answer
-  pub accepted-has-none : (cs : List Cause) (b : A) → decide cs answer ≡ accepted b → (answer ≡ b) × NoCause cs
-  accepted-has-none cs b =
+  pub accepted_has_none : (cs : List Cause) (b : A) → decide cs answer ≡ accepted b → (answer ≡ b) × NoCause cs
+  accepted_has_none cs b =
       decided cs answer (λ (o : Outcome A). o ≡ accepted b → (answer ≡ b) × NoCause cs) (λ r e. absurd (let z : ◌≡◌ {A = ℕ} 0 1 = cc in omega arith))
       (λ none e. (let z : answer ≡ b = cc in z, none))
 
   -- all of that
-  pub fair-answer : (cs : List Cause) → ascending cs ≡ true → FairAnswer answer cs (decide cs answer)
-  fair-answer cs h = record { caused = refused-has-cause cs; lowest = λ r. refused-is-lowest 0 cs r h; no_cause = accepted-has-none cs }
+  pub fair_answer : (cs : List Cause) → ascending cs ≡ true → FairAnswer answer cs (decide cs answer)
+  fair_answer cs h = record { caused = refused_has_cause cs; lowest = λ r. refused_is_lowest 0 cs r h; no_cause = accepted_has_none cs }
 
 pub decides : (A : Type 0) → Decides A
-decides A = record { fair = λ cs answer. fair-answer answer cs }
+decides A = record { fair = λ cs answer. fair_answer answer cs }

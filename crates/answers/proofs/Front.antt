@@ -8,9 +8,9 @@ use lib.ListN.{length, take, get_or, set}
 use lib.Seq.{take-suc, take-suc-set, take_all}
 
 -- the next element is stored
-pub front-more : (l t : List ℕ) (k v : ℕ) → k < length l → k < length t → take k l ≡ take k t → v ≡ get_or t k 0 → take (k + 1) (set l k v) ≡ take (k + 1) t
-front-more l t k v hl ht e ev = rw (add-one k, take-suc-set l k v hl, take-suc t k 0 ht, e, ev) refl
+pub front_more : (l t : List ℕ) (k v : ℕ) → k < length l → k < length t → take k l ≡ take k t → v ≡ get_or t k 0 → take (k + 1) (set l k v) ≡ take (k + 1) t
+front_more l t k v hl ht e ev = rw (add-one k, take-suc-set l k v hl, take-suc t k 0 ht, e, ev) refl
 
 -- as much is stored as the other has
-pub front-all : (l t : List ℕ) (k : ℕ) → length l ≡ length t → length t ≤ k → take k l ≡ take k t → l ≡ t
-front-all l t k h n e = sym (take_all k l (omega (arith, h))) ∙ (e ∙ take_all k t n)
+pub front_all : (l t : List ℕ) (k : ℕ) → length l ≡ length t → length t ≤ k → take k l ≡ take k t → l ≡ t
+front_all l t k h n e = sym (take_all k l (omega (arith, h))) ∙ (e ∙ take_all k t n)

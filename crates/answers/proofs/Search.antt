@@ -8,7 +8,7 @@ use native.Mathlib.Omega.{arith}
 use lib.Dec.{ltb}
 use borrow.Author.Tests.{lt-ltb, le-ltb}
 use Rattle.answers.specs.Search.{all_below, any_below, least}
-use Rattle.answers.proofs.Tests.{and_left, and_right, and_both, or_left, or_right, or-none, not-both}
+use Rattle.answers.proofs.Tests.{and_left, and_right, and_both, or_left, or_right, or_none, not_both}
 
 -- k is n, or below it
 last : (k n : ℕ) → k < suc n → (k ≡ n) ⊎ (k < n)
@@ -16,12 +16,12 @@ last k n h = eq-or-lt_of_le (le_of_suc-le-suc h)
 
 module _ (test : ℕ → Bool) where
   -- a test that all numbers below n pass, at one of them
-  pub all-at : (n : ℕ) → all_below test n ≡ true → (k : ℕ) → k < n → test k ≡ true
+  pub all_at : (n : ℕ) → all_below test n ≡ true → (k : ℕ) → k < n → test k ≡ true
   unfolding all_below
-  all-at zero e k h = absurd (not-suc-le-zero h)
-  all-at (suc n) e k h =
+  all_at zero e k h = absurd (not-suc-le-zero h)
+  all_at (suc n) e k h =
       ⊎_elim (λ q. ap test q ∙ and_right (all_below test n) (test n) e)
-      (λ l. all-at n (and_left (all_below test n) (test n) e) k l) (last k n h)
+      (λ l. all_at n (and_left (all_below test n) (test n) e) k l) (last k n h)
 
   pub all_of : (n : ℕ) → ((k : ℕ) → k < n → test k ≡ true) → all_below test n ≡ true
   unfolding all_below
@@ -37,13 +37,13 @@ module _ (test : ℕ → Bool) where
   pub any_none : (n : ℕ) → ((k : ℕ) → k < n → test k ≡ false) → any_below test n ≡ false
   unfolding any_below
   any_none zero f = refl
-  any_none (suc n) f = or-none (any_none n (λ k h. f k (omega arith))) (f n (omega arith))
+  any_none (suc n) f = or_none (any_none n (λ k h. f k (omega arith))) (f n (omega arith))
 
   -- where no number below n passes, the default
-  pub least-none : (n d : ℕ) → ((k : ℕ) → k < n → test k ≡ false) → least test n d ≡ d
+  pub least_none : (n d : ℕ) → ((k : ℕ) → k < n → test k ≡ false) → least test n d ≡ d
   unfolding least
-  least-none zero d f = refl
-  least-none (suc n) d f = ap (λ (b : Bool). least test n (cond b n d)) (f n (omega arith)) ∙ least-none n d (λ k h. f k (omega arith))
+  least_none zero d f = refl
+  least_none (suc n) d f = ap (λ (b : Bool). least test n (cond b n d)) (f n (omega arith)) ∙ least_none n d (λ k h. f k (omega arith))
 
   -- the number that passes and has none below it that does
   pub least_at : (n d i : ℕ) → i < n → test i ≡ true → ((k : ℕ) → k < i → test k ≡ false) → least test n d ≡ i
@@ -51,7 +51,7 @@ module _ (test : ℕ → Bool) where
   least_at zero d i h t f = absurd (not-suc-le-zero h)
   least_at (suc n) d i h t f =
       ⊎_elim (λ q. ap (λ (b : Bool). least test n (cond b n d)) (subst (λ (m : ℕ). test m ≡ true) q t)
-      ∙ (least-none n n (λ k l. f k (subst (λ (m : ℕ). k < m) (sym q) l)) ∙ sym q))
+      ∙ (least_none n n (λ k l. f k (subst (λ (m : ℕ). k < m) (sym q) l)) ∙ sym q))
       (λ l. least_at n _ i l t f) (last i n h)
 
   -- i is below n and passes, and nothing before it does
@@ -75,14 +75,14 @@ module _ (test : ℕ → Bool) where
 
   -- where some number below n passes, there is a first
   pub first_of : (n i : ℕ) → i < n → test i ≡ true → First n
-  first_of n i h t = ⊎_elim (λ w. w) (λ f. not-both t (f i h)) (first_or_none n)
+  first_of n i h t = ⊎_elim (λ w. w) (λ f. not_both t (f i h)) (first_or_none n)
 
   -- and it is the least
   pub least_first : (n d : ℕ) (w : First n) → least test n d ≡ w.place
   least_first n d w = least_at n d w.place w.below w.passes w.none
 
   -- some number below n passes exactly if the least does not fall back to n
-  pub any-least : (n : ℕ) → any_below test n ≡ ltb (least test n n) n
-  any-least n =
+  pub any_least : (n : ℕ) → any_below test n ≡ ltb (least test n n) n
+  any_least n =
       ⊎_elim (λ w. any_at n w.place w.below w.passes ∙ sym (ap (λ (k : ℕ). ltb k n) (least_first n n w) ∙ lt-ltb w.place n w.below))
-      (λ f. any_none n f ∙ sym (ap (λ (k : ℕ). ltb k n) (least-none n n f) ∙ le-ltb n n (le_refl n))) (first_or_none n)
+      (λ f. any_none n f ∙ sym (ap (λ (k : ℕ). ltb k n) (least_none n n f) ∙ le-ltb n n (le_refl n))) (first_or_none n)

@@ -5,19 +5,19 @@ use Rattle.cell.specs.OfCode.{ThirdDemandOfCode, ReachedByCode}
 use Rattle.cell.specs.OfCell.{Handed, Promised, on_words, ThirdDemandOfCell, ReachedByCell}
 use Rattle.cell.specs.declared.value.Cell.{Cell}
 use Rattle.cell.specs.Value.{kept}
-use Rattle.cell.proofs.OfCode.{third-demand-of-code, reached-by-code}
+use Rattle.cell.proofs.OfCode.{third_demand_of_code, reached_by_code}
 
 promised : (cell : Cell) (calls : List Handed) → Promised cell calls → OfCode.Promised (kept cell) (on_words calls)
 unfolding Promised OfCode.Promised on_words
 promised cell [] k = tt
 promised cell (h ∷ more) k = (k.0, promised h.back.cell more k.1)
 
-pub third-demand-of-cell : ThirdDemandOfCell
+pub third_demand_of_cell : ThirdDemandOfCell
 unfolding ThirdDemandOfCell ThirdDemandOfCode
-third-demand-of-cell ca c0 bcc ag p begun e calls promises =
-    third-demand-of-code ca c0 bcc ag p begun.answer (kept begun.cell) e (on_words calls) (promised begun.cell calls promises)
+third_demand_of_cell ca c0 bcc ag p begun e calls promises =
+    third_demand_of_code ca c0 bcc ag p begun.answer (kept begun.cell) e (on_words calls) (promised begun.cell calls promises)
 
-pub reached-by-cell : ReachedByCell
+pub reached_by_cell : ReachedByCell
 unfolding ReachedByCell ReachedByCode
-reached-by-cell ca c0 bcc ag p begun e calls promises =
-    reached-by-code ca c0 bcc ag p begun.answer (kept begun.cell) e (on_words calls) (promised begun.cell calls promises)
+reached_by_cell ca c0 bcc ag p begun e calls promises =
+    reached_by_code ca c0 bcc ag p begun.answer (kept begun.cell) e (on_words calls) (promised begun.cell calls promises)

@@ -26,6 +26,11 @@ unfoldable pub Promised : List ℕ → List Answered → Type 0
 Promised words [] = Unit
 Promised words (a ∷ more) = Leaves a.answer words a.words (calling (cell_of words) a.call) × Promised a.words more
 
+-- less than that: the answer, and the cell in the words that the call left, are the definition's, whatever became of the words
+unfoldable pub Followed : List ℕ → List Answered → Type 0
+Followed words [] = Unit
+Followed words (a ∷ more) = (changed a.answer (cell_of a.words) ≡ calling (cell_of words) a.call) × Followed a.words more
+
 -- the last cell, and the history
 unfoldable pub handed : List ℕ → List Made → List Answered → Run
 handed words past [] = record { cell = cell_of words; past = past }
@@ -48,3 +53,15 @@ unfoldable pub ReachedByCode : Type 0
 ReachedByCode =
     (ca : List ℕ) (c0 bcc ag p : ℕ) (answer : Answer) (words : List ℕ) → changed answer (cell_of words) ≡ start_of ca c0 bcc ag p
     → (calls : List Answered) → Promised words calls → Reached (handed words [] calls).cell
+
+-- ---- both from less than what is promised
+
+unfoldable pub ThirdDemandOfFollowed : Type 0
+ThirdDemandOfFollowed =
+    (ca : List ℕ) (c0 bcc ag p : ℕ) (answer : Answer) (words : List ℕ) → changed answer (cell_of words) ≡ start_of ca c0 bcc ag p
+    → (calls : List Answered) → Followed words calls → Delivered (cell_of words) (handed words [] calls)
+
+unfoldable pub ReachedByFollowed : Type 0
+ReachedByFollowed =
+    (ca : List ℕ) (c0 bcc ag p : ℕ) (answer : Answer) (words : List ℕ) → changed answer (cell_of words) ≡ start_of ca c0 bcc ag p
+    → (calls : List Answered) → Followed words calls → Reached (handed words [] calls).cell

@@ -16,17 +16,17 @@ use Rattle.rules.specs.CollisionFree.{calling, made, run, begin}
 use Rattle.rules.specs.ExampleRun.{refusals}
 
 -- a row asked of a cell: the function promises the definition's answer for the cell that it got, which is the sheet's
-pub on-cell : {A B : Type 0} (numbers : Outcome A → B) (question : Cell → Outcome A) {answer : B} {cell defined : Cell} {o : Outcome A}
+pub on_cell : {A B : Type 0} (numbers : Outcome A → B) (question : Cell → Outcome A) {answer : B} {cell defined : Cell} {o : Outcome A}
     → answer ≡ numbers (question cell) → cell ≡ defined → question defined ≡ o → answer ≡ numbers o
-on-cell numbers question promise same row = promise ∙ ap (λ c. numbers (question c)) same ∙ ap numbers row
+on_cell numbers question promise same row = promise ∙ ap (λ c. numbers (question c)) same ∙ ap numbers row
 
 pub on_line : (n fn direction : ℕ) {answer : TdmaLine} {cell defined : Cell} {o : Outcome Slot}
     → answer ≡ line_numbers (line_of cell n fn direction) → cell ≡ defined → line_of defined n fn direction ≡ o → answer ≡ line_numbers o
-on_line n fn direction = on-cell line_numbers (λ c. line_of c n fn direction)
+on_line n fn direction = on_cell line_numbers (λ c. line_of c n fn direction)
 
 -- equal answers of who have the same numbers beside the line's answer
-pub who-numbers : {a b : TdmaWho} → a ≡ b → (a.refusal ≡ b.refusal) × ((a.found ≡ b.found) × (a.line ≡ b.line))
-who-numbers e = (ap (λ (x : TdmaWho). x.refusal) e, (ap (λ (x : TdmaWho). x.found) e, ap (λ (x : TdmaWho). x.line) e))
+pub equal_who : {a b : TdmaWho} → a ≡ b → (a.refusal ≡ b.refusal) × ((a.found ≡ b.found) × (a.line ≡ b.line))
+equal_who e = (ap (λ (x : TdmaWho). x.refusal) e, (ap (λ (x : TdmaWho). x.found) e, ap (λ (x : TdmaWho). x.line) e))
 
 -- ---- a list of accepted calls, each made on the cell that the one before it left
 
@@ -63,10 +63,10 @@ called {cell} {after} {end} {x} {xs} l e =
     tail (y ∷ ys) = ys
 
 -- the next call is accepted
-pub next-accepted : {a : TdmaAnswer} {cell end : Cell} {x : Call} {xs : List Call} → Remaining cell (x ∷ xs) end
+pub next_accepted : {a : TdmaAnswer} {cell end : Cell} {x : Call} {xs : List Call} → Remaining cell (x ∷ xs) end
     → a ≡ answer_numbers (calling cell x).refusal → (a.refusal ≡ 0) × (a.value ≡ 0)
 unfolding refusals nones
-next-accepted l e = told e (ap head l.accepted)
+next_accepted l e = told e (ap head l.accepted)
   where
     head : List (Option Refused) → Option Refused
     head [] = none

@@ -11,8 +11,8 @@ use lib.ListN.{get_or}
 use borrow.Author.Tests.{eq-eqb, le-ltb, not-true}
 use Rattle.answers.specs.Outcome.{accepted}
 use Rattle.answers.specs.Search.{all_below}
-use Rattle.answers.proofs.Decide.{none-holds}
-use Rattle.answers.proofs.Search.{all-at}
+use Rattle.answers.proofs.Decide.{none_holds}
+use Rattle.answers.proofs.Search.{all_at}
 use Rattle.answers.proofs.Tables.{every, at_most}
 use Rattle.answers.proofs.Tests.{and_left, and_right}
 use Rattle.clock.specs.Clock.{hyperframe}
@@ -21,16 +21,16 @@ use Rattle.maps.specs.Channels.{Standing, at}
 use Rattle.maps.specs.Combinations.{uncombined, combined, additional, combinations, among, is_combination, rows_among, rows_of}
 use Rattle.maps.specs.Map.{out_of_range, map_of}
 use Rattle.maps.specs.Rows.{numbered, each, from, standing}
-use Rattle.maps.proofs.Range.{accepted-map}
-use Rattle.maps.proofs.Repeat.{repeats, standing-mod}
+use Rattle.maps.proofs.Range.{accepted_map}
+use Rattle.maps.proofs.Repeat.{repeats, standing_mod}
 use Rattle.maps.proofs.Same.{same_all, all_same}
 use Rattle.groups.specs.Frames.{starts}
 use Rattle.groups.specs.Paging.{is_first, any_burst, begins, common_in}
 
 -- a block begins in one of a multiframe's 51 frames
-pub start-below : (b : ℕ) → get_or starts b 0 < 51
+pub start_below : (b : ℕ) → get_or starts b 0 < 51
 unfolding every
-start-below b = omega (arith, at_most 46 starts refl b)
+start_below b = omega (arith, at_most 46 starts refl b)
 
 -- the combinations that have a CCCH, with the number of its blocks
 pub data HasCcch : ℕ → ℕ → Type 0 where
@@ -39,9 +39,9 @@ pub data HasCcch : ℕ → ℕ → Type 0 where
   six : HasCcch 6 9
 
 -- the common line in a timeslot is one of them
-pub common-has : (combined : Bool) (tn : ℕ) → HasCcch (common_in combined tn) (cond combined 3 9)
-common-has true tn = five
-common-has false tn = go (eqb tn 0)
+pub common_has : (combined : Bool) (tn : ℕ) → HasCcch (common_in combined tn) (cond combined 3 9)
+common_has true tn = five
+common_has false tn = go (eqb tn 0)
   where
     go : (t : Bool) → HasCcch (cond t 4 6) 9
     go true = four
@@ -68,11 +68,11 @@ pass five = refl
 pass six = refl
 
 -- the rows are the same in every timeslot
-any-timeslot : {m blocks : ℕ} → HasCcch m blocks → (tn : ℕ) → rows_of m tn 0 ≡ rows_of m 0 0
+any_timeslot : {m blocks : ℕ} → HasCcch m blocks → (tn : ℕ) → rows_of m tn 0 ≡ rows_of m 0 0
 unfolding combinations rows_among
-any-timeslot four tn = refl
-any-timeslot five tn = refl
-any-timeslot six tn = refl
+any_timeslot four tn = refl
+any_timeslot five tn = refl
+any_timeslot six tn = refl
 
 -- a combination's number is no cause to refuse
 known : {m blocks : ℕ} → HasCcch m blocks → not (is_combination m) ≡ false
@@ -97,17 +97,17 @@ module _ {m blocks : ℕ} (w : HasCcch m blocks) (tn b : ℕ) (h : b < blocks) (
 
       repeated : test b (f % 102) ≡ true
       repeated =
-          all-at (test b) 102 (all-at (λ (a : ℕ). all_below (test a) 102) blocks (and_right (repeats 102 (rows_of m 0 0)) _ (pass w)) b h) (f % 102) (mod-lt f (lit< tt))
+          all_at (test b) 102 (all_at (λ (a : ℕ). all_below (test a) 102) blocks (and_right (repeats 102 (rows_of m 0 0)) _ (pass w)) b h) (f % 102) (mod-lt f (lit< tt))
 
       same : standing (rows_of m 0 0) (f % 102) ≡ standing (rows_of m tn 0) f
       same =
-          standing-mod 102 (rows_of m 0 0) (and_left (repeats 102 (rows_of m 0 0)) _ (pass w)) f
-          ∙ ap (λ rows. standing rows f) (sym (any-timeslot w tn))
+          standing_mod 102 (rows_of m 0 0) (and_left (repeats 102 (rows_of m 0 0)) _ (pass w)) f
+          ∙ ap (λ rows. standing rows f) (sym (any_timeslot w tn))
 
   -- the block begins in one frame of each multiframe
-  pub begins-at : begins m tn b f ≡ eqb (f % 51) (get_or starts b 0)
+  pub begins_at : begins m tn b f ≡ eqb (f % 51) (get_or starts b 0)
   unfolding begins
-  begins-at = go (eqb (f % 51) (get_or starts b 0)) rightly
+  begins_at = go (eqb (f % 51) (get_or starts b 0)) rightly
     where
       go : (t : Bool) → expected b (standing (rows_of m tn 0) f) t ≡ true → any_burst (is_first b) (standing (rows_of m tn 0) f) ≡ t
       go true e = ap (any_burst (is_first b)) (all_same _ _ e) ∙ own b
@@ -115,10 +115,10 @@ module _ {m blocks : ℕ} (w : HasCcch m blocks) (tn b : ℕ) (h : b < blocks) (
 
   module _ (e : begins m tn b f ≡ true) where
     -- and its first burst stands there alone
-    pub stands-alone : standing (rows_of m tn 0) f ≡ at Ccch 0 b 0 ∷ []
-    stands-alone = all_same _ _ (subst (λ (t : Bool). expected b (standing (rows_of m tn 0) f) t ≡ true) (sym begins-at ∙ e) rightly)
+    pub stands_alone : standing (rows_of m tn 0) f ≡ at Ccch 0 b 0 ∷ []
+    stands_alone = all_same _ _ (subst (λ (t : Bool). expected b (standing (rows_of m tn 0) f) t ≡ true) (sym begins_at ∙ e) rightly)
 
     pub in_map : tn < 8 → f < hyperframe → map_of m tn f 0 ≡ accepted (at Ccch 0 b 0 ∷ [])
     in_map hn hf =
-        accepted-map m tn f 0 (none-holds (out_of_range m tn f 0) (known w, (le-ltb 7 tn (omega arith), (le-ltb 2715647 f (omega arith), (refl, tt)))))
-        ∙ ap accepted stands-alone
+        accepted_map m tn f 0 (none_holds (out_of_range m tn f 0) (known w, (le-ltb 7 tn (omega arith), (le-ltb 2715647 f (omega arith), (refl, tt)))))
+        ∙ ap accepted stands_alone

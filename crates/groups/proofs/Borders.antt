@@ -10,12 +10,12 @@ use Rattle.maps.specs.Combinations.{uncombined, combined, additional, combinatio
 use Rattle.maps.specs.Rows.{numbered, standing}
 use Rattle.groups.specs.Paging.{Common, timeslot, block, any_burst, begins, is_paged, later, wait, block_for, paging_of}
 use Rattle.groups.specs.Borders.{lines, five, to, Borders}
-use Rattle.groups.proofs.FirstBlock.{given-wait}
+use Rattle.groups.proofs.FirstBlock.{given_wait}
 
 -- the phone's block begins d frames after FN, and not before
 waited : (c : Common) (i fn d : ℕ) → d < hyperframe → is_paged c i (later fn d) ≡ true → all_below (λ e. not (is_paged c i (later fn e))) d ≡ true
     → to (timeslot c i) (block c i) (later fn (wait c i fn)) ≡ to (timeslot c i) (block c i) (later fn d)
-waited c i fn d h t a = ap (λ (e : ℕ). to (timeslot c i) (block c i) (later fn e)) (given-wait c i fn d h t a)
+waited c i fn d h t a = ap (λ (e : ℕ). to (timeslot c i) (block c i) (later fn e)) (given_wait c i fn d h t a)
 
 pub borders : Borders
 unfolding decide any_of all_below uncombined combined additional combinations rows_among numbered standing any_burst begins is_paged block_for paging_of

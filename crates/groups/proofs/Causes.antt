@@ -4,9 +4,9 @@ use mathlib.Core.Path.{refl}
 use mathlib.Core.List.{List}
 use Rattle.answers.specs.Outcome.{ascending_from}
 use Rattle.answers.specs.Claims.{FairAnswer}
-use Rattle.answers.proofs.Decide.{fair-answer}
+use Rattle.answers.proofs.Decide.{fair_answer}
 use Rattle.groups.specs.Paging.{Common, last_three, block_for, paging_causes, paging_of}
 
-pub page-fair : (c : Common) (digits : List ℕ) (fn : ℕ) → FairAnswer (block_for c (last_three digits) fn) (paging_causes c digits fn) (paging_of c digits fn)
+pub page_fair : (c : Common) (digits : List ℕ) (fn : ℕ) → FairAnswer (block_for c (last_three digits) fn) (paging_causes c digits fn) (paging_of c digits fn)
 unfolding paging_of ascending_from
-page-fair c digits fn = fair-answer _ (paging_causes c digits fn) refl
+page_fair c digits fn = fair_answer _ (paging_causes c digits fn) refl

@@ -11,7 +11,7 @@ use Rattle.maps.specs.Combinations.{uncombined, combinations, rows_among}
 use Rattle.maps.specs.Rows.{numbered, standing}
 use Rattle.groups.specs.declared.PagingBlock.{PagingBlock}
 use Rattle.groups.specs.Paging.{Common, any_burst, begins, is_paged, later, block_for, paging_of}
-use Rattle.groups.proofs.FirstBlock.{given-wait}
+use Rattle.groups.proofs.FirstBlock.{given_wait}
 
 abbrev pub one_line : Common
 one_line = record { K = 1; combined = false; AG = 1; P = 5 }
@@ -25,6 +25,6 @@ pub drill : (paging_of one_line (1 ∷ 2 ∷ 3 ∷ []) 0 ≡ accepted (record { 
     × (paging_of one_line (1 ∷ 3 ∷ 1 ∷ []) 2715647 ≡ accepted (record { tn = 0; block = 4; frame = 77 }))
 unfolding decide any_of all_below uncombined combinations rows_among numbered standing any_burst begins is_paged block_for paging_of
 drill = (
-  ap (λ (d : ℕ). accepted (block_4 0 d)) (given-wait one_line 123 0 26 (lit< tt) refl refl),
-  ap (λ (d : ℕ). accepted (block_4 2715647 d)) (given-wait one_line 131 2715647 78 (lit< tt) refl refl),
+  ap (λ (d : ℕ). accepted (block_4 0 d)) (given_wait one_line 123 0 26 (lit< tt) refl refl),
+  ap (λ (d : ℕ). accepted (block_4 2715647 d)) (given_wait one_line 131 2715647 78 (lit< tt) refl refl),
 )

@@ -14,7 +14,7 @@ use Rattle.answers.proofs.Tests.{and_left, and_right, and_both, refute}
 use Rattle.clock.specs.Clock.{hyperframe}
 use Rattle.groups.specs.Frames.{is_hit}
 use Rattle.groups.specs.Paging.{later}
-use Rattle.groups.proofs.Remainders.{next, next-remainder, next-first}
+use Rattle.groups.proofs.Remainders.{next, next_remainder, next_first}
 
 -- the first multiframe at or after FN by its frame s, among those with the remainder
 abbrev pub multiframe : ℕ → ℕ → ℕ → ℕ → ℕ
@@ -25,8 +25,8 @@ pub record Lands (test : ℕ → Bool) (fn f : ℕ) : Type 0 where
   pub first : First (λ (d : ℕ). test (later fn d)) hyperframe
   pub lands : later fn first.place ≡ f
 
-pub lands-least : (test : ℕ → Bool) (fn f : ℕ) → Lands test fn f → later fn (least (λ (d : ℕ). test (later fn d)) hyperframe 0) ≡ f
-lands-least test fn f w = ap (later fn) (least_first (λ (d : ℕ). test (later fn d)) hyperframe 0 w.first) ∙ w.lands
+pub lands_least : (test : ℕ → Bool) (fn f : ℕ) → Lands test fn f → later fn (least (λ (d : ℕ). test (later fn d)) hyperframe 0) ≡ f
+lands_least test fn f w = ap (later fn) (least_first (λ (d : ℕ). test (later fn d)) hyperframe 0 w.first) ∙ w.lands
 
 module _ (p t s : ℕ) where
   -- what a hit is
@@ -44,22 +44,22 @@ module _ (p t s fn : ℕ) (ht : t < p) (hs : s < 51) where
       and_both (eq-eqb ((51 * j + s) / 51 % p) t (ap (λ (k : ℕ). k % p) q ∙ e)) (eq-eqb ((51 * j + s) % 51) s (omega arith))
 
   -- a hit from FN on is not before that multiframe
-  not-before : (f : ℕ) → fn ≤ f → is_hit p t s f ≡ true → 51 * multiframe p t s fn + s ≤ f
-  not-before f h e =
+  not_before : (f : ℕ) → fn ≤ f → is_hit p t s f ≡ true → 51 * multiframe p t s fn + s ≤ f
+  not_before f h e =
       let i = place_in p t s f e in
-      omega (arith, next-first ((fn + 50 - s) / 51) t p ht (f / 51) (omega arith) (remainder p t s f e))
+      omega (arith, next_first ((fn + 50 - s) / 51) t p ht (f / 51) (omega arith) (remainder p t s f e))
 
   module _ (hf : fn < hyperframe) (hm : t < 53248) where
     -- before the turn
-    pub hit-next : multiframe p t s fn < 53248 → Lands (is_hit p t s) fn (51 * multiframe p t s fn + s)
-    hit-next h =
+    pub hit_next : multiframe p t s fn < 53248 → Lands (is_hit p t s) fn (51 * multiframe p t s fn + s)
+    hit_next h =
         record {
           first =
               record {
                 place = 51 * multiframe p t s fn + s - fn;
                 below = omega arith;
-                passes = ap (is_hit p t s) {x = later fn (51 * multiframe p t s fn + s - fn)} (omega arith) ∙ hit (multiframe p t s fn) (next-remainder _ t p ht);
-                none = λ k l. refute _ (λ e. omega (arith, not-before (later fn k) (omega arith) e));
+                passes = ap (is_hit p t s) {x = later fn (51 * multiframe p t s fn + s - fn)} (omega arith) ∙ hit (multiframe p t s fn) (next_remainder _ t p ht);
+                none = λ k l. refute _ (λ e. omega (arith, not_before (later fn k) (omega arith) e));
               };
           lands = omega arith;
         }
@@ -70,7 +70,7 @@ module _ (p t s fn : ℕ) (ht : t < p) (hs : s < 51) where
       where
         go : Dec (t < (fn + 50 - s) / 51) → 51 * t + s < fn
         go (yes g) = omega arith
-        go (no g) = omega (arith, next-first ((fn + 50 - s) / 51) t p ht t (omega arith) (mod-eq_of_lt ht))
+        go (no g) = omega (arith, next_first ((fn + 50 - s) / 51) t p ht t (omega arith) (mod-eq_of_lt ht))
 
     -- no hit is before multiframe t
     not_lower : (f : ℕ) → is_hit p t s f ≡ true → 51 * t + s ≤ f
@@ -80,8 +80,8 @@ module _ (p t s fn : ℕ) (ht : t < p) (hs : s < 51) where
         go (yes g) = omega (arith, remainder p t s f e, mod-eq_of_lt {n = f / 51} {m = p} (omega arith))
         go (no g) = omega (arith, place_in p t s f e)
 
-    pub hit-past : 53248 ≤ multiframe p t s fn → Lands (is_hit p t s) fn (51 * t + s)
-    hit-past h =
+    pub hit_past : 53248 ≤ multiframe p t s fn → Lands (is_hit p t s) fn (51 * t + s)
+    hit_past h =
         record {
           first =
               record {
@@ -94,14 +94,14 @@ module _ (p t s fn : ℕ) (ht : t < p) (hs : s < 51) where
         }
       where
         go : (k : ℕ) → k < 51 * t + s + hyperframe - fn → is_hit p t s (later fn k) ≡ true → Dec (fn + k < hyperframe) → ⊥
-        go k l e (yes g) = omega (arith, not-before (later fn k) (omega arith) e)
+        go k l e (yes g) = omega (arith, not_before (later fn k) (omega arith) e)
         go k l e (no g) = omega (arith, passed h, not_lower (later fn k) e)
 
     -- one or the other
-    pub hit-first : (P : Type 0) → (multiframe p t s fn < 53248 → Lands (is_hit p t s) fn (51 * multiframe p t s fn + s) → P)
+    pub hit_first : (P : Type 0) → (multiframe p t s fn < 53248 → Lands (is_hit p t s) fn (51 * multiframe p t s fn + s) → P)
         → (53248 ≤ multiframe p t s fn → Lands (is_hit p t s) fn (51 * t + s) → P) → P
-    hit-first P before past = go (dec_lt (multiframe p t s fn) 53248)
+    hit_first P before past = go (dec_lt (multiframe p t s fn) 53248)
       where
         go : Dec (multiframe p t s fn < 53248) → P
-        go (yes h) = before h (hit-next h)
-        go (no h) = past (omega arith) (hit-past (omega arith))
+        go (yes h) = before h (hit_next h)
+        go (no h) = past (omega arith) (hit_past (omega arith))

@@ -14,27 +14,27 @@ factors a b h = (
   ⊎_elim (λ e. omega (arith, ap (λ (k : ℕ). a * k) e, mul-zero a)) (λ p. p) (eq-zero-or-pos b),
 )
 
-pub remainder-divided : (x a p : ℕ) → 0 < a * p → x % (a * p) / a < p
-remainder-divided x a p h = (div-lt_iff_lt-mul (factors a p h).0).1 (subst (λ (k : ℕ). x % (a * p) < k) (mul_comm a p) (mod-lt x h))
+pub remainder_divided : (x a p : ℕ) → 0 < a * p → x % (a * p) / a < p
+remainder_divided x a p h = (div-lt_iff_lt-mul (factors a p h).0).1 (subst (λ (k : ℕ). x % (a * p) < k) (mul_comm a p) (mod-lt x h))
 
 module _ (c : Common) (i : ℕ) (hn : 0 < n c) where
-  A-positive : 0 < A c
-  A-positive = (factors (A c) c.P hn).0
+  a_positive : 0 < A c
+  a_positive = (factors (A c) c.P hn).0
 
   -- G = I mod n
   pub group : G c i ≡ i % n c
   group = mod-mod_of_dvd (n c) i (dvd-mul_left (n c) c.K)
 
   -- the phone's multiframes by their remainder
-  pub group-multiframe : G c i / A c < c.P
-  group-multiframe = remainder-divided (r c i) (A c) c.P hn
+  pub group_multiframe : G c i / A c < c.P
+  group_multiframe = remainder_divided (r c i) (A c) c.P hn
 
-  pub group-small : G c i ≤ i
-  group-small = omega (arith, mod-le (r c i) (n c), mod-le i (c.K * n c))
+  pub group_small : G c i ≤ i
+  group_small = omega (arith, mod-le (r c i) (n c), mod-le i (c.K * n c))
 
   -- a phone's block is one of the CCCH's, and not reserved for access grants
-  pub block-below : block c i < cond c.combined 3 9
-  block-below = omega (arith, mod-lt (G c i) A-positive)
+  pub block_below : block c i < cond c.combined 3 9
+  block_below = omega (arith, mod-lt (G c i) a_positive)
 
   module _ (hk : 0 < c.K) where
     -- the TN is twice one of 0 to K − 1 ..

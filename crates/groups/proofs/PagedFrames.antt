@@ -17,24 +17,24 @@ use Rattle.maps.specs.Rows.{standing}
 use Rattle.groups.specs.Frames.{starts}
 use Rattle.groups.specs.Paging.{Common, n, timeslot, is_multiframe, block, begins, common_in, is_paged}
 use Rattle.groups.proofs.BlockFrames as blocks
-use Rattle.groups.proofs.Group.{block-below}
+use Rattle.groups.proofs.Group.{block_below}
 
 -- the common line in the phone's timeslot
 abbrev pub common_line : Common → ℕ → ℕ
 common_line c i = common_in c.combined (timeslot c i)
 
 module _ (c : Common) (i : ℕ) (hn : 0 < n c) (f : ℕ) where
-  pub paged-frames : is_paged c i f ≡ (is_multiframe c i f && eqb (f % 51) (get_or starts (block c i) 0))
+  pub paged_frames : is_paged c i f ≡ (is_multiframe c i f && eqb (f % 51) (get_or starts (block c i) 0))
   unfolding is_paged
-  paged-frames = ap (λ (t : Bool). is_multiframe c i f && t) (blocks.begins-at (blocks.common-has c.combined (timeslot c i)) (timeslot c i) (block c i) (block-below c i hn) f)
+  paged_frames = ap (λ (t : Bool). is_multiframe c i f && t) (blocks.begins_at (blocks.common_has c.combined (timeslot c i)) (timeslot c i) (block c i) (block_below c i hn) f)
 
   module _ (e : is_paged c i f ≡ true) where
     begun : begins (common_line c i) (timeslot c i) (block c i) f ≡ true
     unfolding is_paged
     begun = and_right (is_multiframe c i f) _ e
 
-    pub stands-alone : standing (rows_of (common_line c i) (timeslot c i) 0) f ≡ at Ccch 0 (block c i) 0 ∷ []
-    stands-alone = blocks.stands-alone (blocks.common-has c.combined (timeslot c i)) (timeslot c i) (block c i) (block-below c i hn) f begun
+    pub stands_alone : standing (rows_of (common_line c i) (timeslot c i) 0) f ≡ at Ccch 0 (block c i) 0 ∷ []
+    stands_alone = blocks.stands_alone (blocks.common_has c.combined (timeslot c i)) (timeslot c i) (block c i) (block_below c i hn) f begun
 
     pub in_map : timeslot c i < 8 → f < hyperframe → map_of (common_line c i) (timeslot c i) f 0 ≡ accepted (at Ccch 0 (block c i) 0 ∷ [])
-    in_map = blocks.in_map (blocks.common-has c.combined (timeslot c i)) (timeslot c i) (block c i) (block-below c i hn) f begun
+    in_map = blocks.in_map (blocks.common_has c.combined (timeslot c i)) (timeslot c i) (block c i) (block_below c i hn) f begun

@@ -10,27 +10,27 @@ use native.Mathlib.Omega.{arith}
 use lib.Dec.{ltb, leb, eqb, eqb-suc-zero}
 use lib.ListN.{length, get_or}
 use borrow.Author.Tests.{ltb-true, leb-true, eqb-true, eqb-false, eq-eqb, le-leb, not-true, not-false}
-use Rattle.answers.proofs.Search.{all-at, any_at}
-use Rattle.answers.proofs.Tests.{and_left, and_right, and_both, and-rest, or-rest, not-both}
+use Rattle.answers.proofs.Search.{all_at, any_at}
+use Rattle.answers.proofs.Tests.{and_left, and_right, and_both, and_rest, or_rest, not_both}
 use Rattle.clock.specs.Clock.{parts_of}
 use Rattle.hops.specs.Masks.{bit, contains, ones, ones_below, one_at_or_above, share_one}
 use Rattle.hops.specs.Allocation.{in_place, is_allocation, precedes}
 use Rattle.hops.specs.Hopping.{S, mai_of, line_position, line_arfcn}
 use Rattle.hops.specs.Clash.{Physical, clash}
-use Rattle.hops.proofs.Bits.{OneAt, position-one, bit-contains}
-use Rattle.hops.proofs.Mai.{mai-lt, mai-cyclic, mai-random}
+use Rattle.hops.proofs.Bits.{OneAt, position_one, bit_contains}
+use Rattle.hops.proofs.Mai.{mai_lt, mai_cyclic, mai_random}
 
 -- ---- one line
 
 module _ (m hsn maio fn : ℕ) (h : maio < ones m) where
   -- the position of a line is a one of its mask, with MAI ones below it
-  pub line-one : OneAt m (mai_of (ones m) hsn maio fn) (line_position m hsn maio fn)
-  line-one = position-one m (mai_of (ones m) hsn maio fn) (mai-lt (ones m) hsn maio fn (omega arith))
+  pub line_one : OneAt m (mai_of (ones m) hsn maio fn) (line_position m hsn maio fn)
+  line_one = position_one m (mai_of (ones m) hsn maio fn) (mai_lt (ones m) hsn maio fn (omega arith))
 
   -- and below the cell allocation's length
-  pub line-within : (n : ℕ) → one_at_or_above m n ≡ false → line_position m hsn maio fn < n
+  pub line_within : (n : ℕ) → one_at_or_above m n ≡ false → line_position m hsn maio fn < n
   unfolding one_at_or_above
-  line-within n a = go (dec_lt p n)
+  line_within n a = go (dec_lt p n)
     where
       p : ℕ
       p = line_position m hsn maio fn
@@ -38,9 +38,9 @@ module _ (m hsn maio fn : ℕ) (h : maio < ones m) where
       go : Dec (p < n) → p < n
       go (yes l) = l
       go (no l) =
-          not-both
-          (any_at (λ (q : ℕ). leb n q && contains m q) 64 p line-one.below
-          (and_both (le-leb n p (omega arith)) (bit-contains m p line-one.one))) a
+          not_both
+          (any_at (λ (q : ℕ). leb n q && contains m q) 64 p line_one.below
+          (and_both (le-leb n p (omega arith)) (bit_contains m p line_one.one))) a
 
 -- ---- one mask and HSN, two MAIOs
 
@@ -56,8 +56,8 @@ wrap y n h = go (dec_lt y n)
         inr (omega arith)
 
 -- what is added to one number and leaves one remainder is one number
-same-offset : (x a b n : ℕ) → a < n → b < n → (x + a) % n ≡ (x + b) % n → a ≡ b
-same-offset x a b n ha hb e =
+same_offset : (x a b n : ℕ) → a < n → b < n → (x + a) % n ≡ (x + b) % n → a ≡ b
+same_offset x a b n ha hb e =
     let s = x % n in
     let l : x % n < n = mod-lt x (omega arith) in
     let q : (x % n + a) % n ≡ (x % n + b) % n = mod-add-mod x n a ∙ (e ∙ sym (mod-add-mod x n b)) in
@@ -66,54 +66,54 @@ same-offset x a b n ha hb e =
     (wrap (x % n + a) n (omega arith))
 
 -- equal MAI, mask and HSN: equal MAIO
-pub mai-apart : (n hsn a b fn : ℕ) → a < n → b < n → mai_of n hsn a fn ≡ mai_of n hsn b fn → a ≡ b
-mai-apart n hsn a b fn ha hb e = go (eqb hsn 0) refl
+pub mai_apart : (n hsn a b fn : ℕ) → a < n → b < n → mai_of n hsn a fn ≡ mai_of n hsn b fn → a ≡ b
+mai_apart n hsn a b fn ha hb e = go (eqb hsn 0) refl
   where
     go : (t : Bool) → eqb hsn 0 ≡ t → a ≡ b
-    go true z = let q = eqb-true _ _ z in same-offset fn a b n ha hb (mai-cyclic n hsn a fn q ∙ (e ∙ sym (mai-cyclic n hsn b fn q)))
+    go true z = let q = eqb-true _ _ z in same_offset fn a b n ha hb (mai_cyclic n hsn a fn q ∙ (e ∙ sym (mai_cyclic n hsn b fn q)))
     go false z =
         let q = eqb-false _ _ z in
-        same-offset (S n hsn (parts_of fn)) a b n ha hb (mai-random n hsn a fn q ∙ (e ∙ sym (mai-random n hsn b fn q)))
+        same_offset (S n hsn (parts_of fn)) a b n ha hb (mai_random n hsn a fn q ∙ (e ∙ sym (mai_random n hsn b fn q)))
 
 -- equal mask and HSN and different MAIO below N: different positions in every frame
-pub maio-apart : (m hsn a b fn : ℕ) → a < ones m → b < ones m → line_position m hsn a fn ≡ line_position m hsn b fn → a ≡ b
-maio-apart m hsn a b fn ha hb e =
-    let x = (line-one m hsn a fn ha).rank in
-    let y = (line-one m hsn b fn hb).rank in
-    mai-apart (ones m) hsn a b fn ha hb (sym x ∙ (ap (λ (p : ℕ). ones_below m p) e ∙ y))
+pub maio_apart : (m hsn a b fn : ℕ) → a < ones m → b < ones m → line_position m hsn a fn ≡ line_position m hsn b fn → a ≡ b
+maio_apart m hsn a b fn ha hb e =
+    let x = (line_one m hsn a fn ha).rank in
+    let y = (line_one m hsn b fn hb).rank in
+    mai_apart (ones m) hsn a b fn ha hb (sym x ∙ (ap (λ (p : ℕ). ones_below m p) e ∙ y))
 
 -- ---- two masks
 
 -- masks that share no one never give the same position
-pub mask-apart : (m k hsn hsn' a b fn : ℕ) → a < ones m → b < ones k → share_one m k ≡ false → line_position m hsn a fn ≡ line_position k hsn' b fn → ⊥
+pub mask_apart : (m k hsn hsn' a b fn : ℕ) → a < ones m → b < ones k → share_one m k ≡ false → line_position m hsn a fn ≡ line_position k hsn' b fn → ⊥
 unfolding share_one
-mask-apart m k hsn hsn' a b fn ha hb n e =
-    let x = line-one m hsn a fn ha in
-    let y = line-one k hsn' b fn hb in
+mask_apart m k hsn hsn' a b fn ha hb n e =
+    let x = line_one m hsn a fn ha in
+    let y = line_one k hsn' b fn hb in
     let p = line_position m hsn a fn in
-    not-both
+    not_both
     (any_at (λ (q : ℕ). contains m q && contains k q) 64 p x.below
-    (and_both (bit-contains m p x.one) (bit-contains k p (ap (λ (q : ℕ). bit k q) e ∙ y.one)))) n
+    (and_both (bit_contains m p x.one) (bit_contains k p (ap (λ (q : ℕ). bit k q) e ∙ y.one)))) n
 
 -- ---- the cell allocation
 
 module _ (ca : List ℕ) (h : is_allocation ca ≡ true) where
-  pub at-most-64 : length ca ≤ 64
+  pub at_most_64 : length ca ≤ 64
   unfolding is_allocation
-  at-most-64 = leb-true _ _ (and_right (ltb 0 (length ca)) _ (and_left (ltb 0 (length ca) && leb (length ca) 64) _ h))
+  at_most_64 = leb-true _ _ (and_right (ltb 0 (length ca)) _ (and_left (ltb 0 (length ca) && leb (length ca) 64) _ h))
 
   placed : (k : ℕ) → k < length ca → in_place ca k ≡ true
   unfolding is_allocation
-  placed k l = all-at (in_place ca) (length ca) (and_right (ltb 0 (length ca) && leb (length ca) 64) _ h) k l
+  placed k l = all_at (in_place ca) (length ca) (and_right (ltb 0 (length ca) && leb (length ca) 64) _ h) k l
 
   -- every entry is an ARFCN
-  pub entry-arfcn : (k : ℕ) → k < length ca → get_or ca k 0 < 1024
-  entry-arfcn k l = ltb-true _ _ (and_left (ltb (get_or ca k 0) 1024) _ (placed k l))
+  pub entry_arfcn : (k : ℕ) → k < length ca → get_or ca k 0 < 1024
+  entry_arfcn k l = ltb-true _ _ (and_left (ltb (get_or ca k 0) 1024) _ (placed k l))
 
   next : (k : ℕ) → suc k < length ca → get_or ca k 0 < get_or ca (suc k) 0
   next k l =
       let order : precedes (get_or ca (suc k - 1) 0) (get_or ca (suc k) 0) ≡ true =
-      or-rest (eqb (suc k) 0) _ (eqb-suc-zero k) (and_right (ltb (get_or ca (suc k) 0) 1024) _ (placed (suc k) l)) in
+      or_rest (eqb (suc k) 0) _ (eqb-suc-zero k) (and_right (ltb (get_or ca (suc k) 0) 1024) _ (placed (suc k) l)) in
       subst (λ (i : ℕ). get_or ca i 0 < get_or ca (suc k) 0) (let e : suc k - 1 ≡ k = omega arith in e) (ltb-true _ _ order)
 
   pub ascends : (i j : ℕ) → i < j → j < length ca → get_or ca i 0 < get_or ca j 0
@@ -123,8 +123,8 @@ module _ (ca : List ℕ) (h : is_allocation ca ≡ true) where
       (λ (b : i < j). lt_trans (ascends i j b (omega arith)) (next j r)) (eq-or-lt_of_le (le_of_suc-le-suc l))
 
   -- different positions have different ARFCNs
-  pub entry-apart : (i j : ℕ) → i < length ca → j < length ca → get_or ca i 0 ≡ get_or ca j 0 → i ≡ j
-  entry-apart i j hi hj e = go (dec_lt i j) (dec_lt j i)
+  pub entry_apart : (i j : ℕ) → i < length ca → j < length ca → get_or ca i 0 ≡ get_or ca j 0 → i ≡ j
+  entry_apart i j hi hj e = go (dec_lt i j) (dec_lt j i)
     where
       go : Dec (i < j) → Dec (j < i) → i ≡ j
       go (yes l) d = absurd (let a = ascends i j l hj in omega arith)
@@ -136,7 +136,7 @@ module _ (ca : List ℕ) (h : is_allocation ca ≡ true) where
 -- what an open line has: a mask within the cell allocation, and MAIO below N
 pub record Fit (ca : List ℕ) (v : Physical) : Type 0 where
   pub within : one_at_or_above v.mask (length ca) ≡ false
-  pub maio-below : v.maio < ones v.mask
+  pub maio_below : v.maio < ones v.mask
 
 -- two lines of one timeslot that do not clash share no one, or differ in MAIO alone
 Parted : Physical → Physical → Type 0
@@ -158,7 +158,7 @@ parted v w t c = go (share_one v.mask w.mask) refl
     go : (s : Bool) → share_one v.mask w.mask ≡ s → Parted v w
     go false e = inl e
     go true e =
-        let same : (masks && hsns && not maios) ≡ true = not-false _ (and-rest (eqb v.tn w.tn && share_one v.mask w.mask) _ (and_both (eq-eqb _ _ t) e) c) in
+        let same : (masks && hsns && not maios) ≡ true = not-false _ (and_rest (eqb v.tn w.tn && share_one v.mask w.mask) _ (and_both (eq-eqb _ _ t) e) c) in
         let both = and_left (masks && hsns) (not maios) same in
         inr (eqb-true _ _ (and_left masks hsns both), eqb-true _ _ (and_right masks hsns both), eqb-false _ _ (not-true maios (and_right (masks && hsns) (not maios) same)))
 
@@ -166,7 +166,7 @@ parted v w t c = go (share_one v.mask w.mask) refl
 pub apart : (ca : List ℕ) (v w : Physical) → is_allocation ca ≡ true → Fit ca v → Fit ca w → v.tn ≡ w.tn → clash v w ≡ false
     → (fn : ℕ) → line_arfcn ca v.mask v.hsn v.maio fn ≡ line_arfcn ca w.mask w.hsn w.maio fn → ⊥
 unfolding Parted
-apart ca v w a fv fw t c fn e = ⊎_elim no-share one-mask (parted v w t c)
+apart ca v w a fv fw t c fn e = ⊎_elim no_share one_mask (parted v w t c)
   where
     p : ℕ
     p = line_position v.mask v.hsn v.maio fn
@@ -176,13 +176,13 @@ apart ca v w a fv fw t c fn e = ⊎_elim no-share one-mask (parted v w t c)
 
     same : p ≡ q
     same =
-        entry-apart ca a p q (line-within v.mask v.hsn v.maio fn fv.maio-below (length ca) fv.within)
-        (line-within w.mask w.hsn w.maio fn fw.maio-below (length ca) fw.within) e
+        entry_apart ca a p q (line_within v.mask v.hsn v.maio fn fv.maio_below (length ca) fv.within)
+        (line_within w.mask w.hsn w.maio fn fw.maio_below (length ca) fw.within) e
 
-    no-share : share_one v.mask w.mask ≡ false → ⊥
-    no-share n = mask-apart v.mask w.mask v.hsn w.hsn v.maio w.maio fn fv.maio-below fw.maio-below n same
+    no_share : share_one v.mask w.mask ≡ false → ⊥
+    no_share n = mask_apart v.mask w.mask v.hsn w.hsn v.maio w.maio fn fv.maio_below fw.maio_below n same
 
-    one-mask : (v.mask ≡ w.mask) × (v.hsn ≡ w.hsn) × (v.maio ≡ w.maio → ⊥) → ⊥
-    one-mask s =
-        s.2 (maio-apart v.mask v.hsn v.maio w.maio fn fv.maio-below (subst (λ (m : ℕ). w.maio < ones m) (sym s.0) fw.maio-below)
+    one_mask : (v.mask ≡ w.mask) × (v.hsn ≡ w.hsn) × (v.maio ≡ w.maio → ⊥) → ⊥
+    one_mask s =
+        s.2 (maio_apart v.mask v.hsn v.maio w.maio fn fv.maio_below (subst (λ (m : ℕ). w.maio < ones m) (sym s.0) fw.maio_below)
         (same ∙ (cc (s.0, s.1))))

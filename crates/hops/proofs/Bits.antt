@@ -14,7 +14,7 @@ use lib.Pow.{pow_pos, mod-pow-add, shr-shr, shr_lt}
 use borrow.Author.Tests.{eq-eqb, ne_eqb, eqb-true, eqb-false, le-leb, lt-leb, leb-true}
 use Rattle.answers.specs.Search.{any_below}
 use Rattle.answers.proofs.Search.{any_at, any_none, least_at, First, first_or_none}
-use Rattle.answers.proofs.Tests.{and_both, and_left, and_right, not-both, refute}
+use Rattle.answers.proofs.Tests.{and_both, and_left, and_right, not_both, refute}
 use Rattle.hops.specs.Masks.{bit, contains, ones_below, ones, position_at, one_at_or_above, share_one}
 
 one_is_not_zero : ◌≡◌ {A = ℕ} 1 0 → ⊥
@@ -25,28 +25,28 @@ one_is_not_zero e = omega arith
 pub bit_le : (m p : ℕ) → bit m p ≤ 1
 bit_le m p = omega arith
 
-bit-cases : (m p : ℕ) → (bit m p ≡ 0) ⊎ (bit m p ≡ 1)
-bit-cases m p = go (bit m p) (bit_le m p)
+bit_cases : (m p : ℕ) → (bit m p ≡ 0) ⊎ (bit m p ≡ 1)
+bit_cases m p = go (bit m p) (bit_le m p)
   where
     go : (b : ℕ) → b ≤ 1 → (b ≡ 0) ⊎ (b ≡ 1)
     go zero h = inl refl
     go (suc b) h = inr (omega arith)
 
-pub contains-bit : (m p : ℕ) → contains m p ≡ true → bit m p ≡ 1
-contains-bit m p h = eqb-true _ _ h
+pub contains_bit : (m p : ℕ) → contains m p ≡ true → bit m p ≡ 1
+contains_bit m p h = eqb-true _ _ h
 
-pub bit-contains : (m p : ℕ) → bit m p ≡ 1 → contains m p ≡ true
-bit-contains m p h = eq-eqb _ _ h
+pub bit_contains : (m p : ℕ) → bit m p ≡ 1 → contains m p ≡ true
+bit_contains m p h = eq-eqb _ _ h
 
-pub lacks-bit : (m p : ℕ) → contains m p ≡ false → bit m p ≡ 0
-lacks-bit m p h = ⊎_elim (λ e. e) (λ e. not-both (bit-contains m p e) h) (bit-cases m p)
+pub lacks_bit : (m p : ℕ) → contains m p ≡ false → bit m p ≡ 0
+lacks_bit m p h = ⊎_elim (λ e. e) (λ e. not_both (bit_contains m p e) h) (bit_cases m p)
 
-pub bit-lacks : (m p : ℕ) → bit m p ≡ 0 → contains m p ≡ false
-bit-lacks m p h = ne_eqb _ _ (λ (e : bit m p ≡ 1). omega arith)
+pub bit_lacks : (m p : ℕ) → bit m p ≡ 0 → contains m p ≡ false
+bit_lacks m p h = ne_eqb _ _ (λ (e : bit m p ≡ 1). omega arith)
 
 -- bit p + a of m is bit p of m without its lowest a bits
-pub bit-shift : (m a p : ℕ) → bit m (a + p) ≡ bit (m / 2 ^ a) p
-bit-shift m a p = ap (λ (x : ℕ). x % 2) (sym (shr-shr m a p))
+pub bit_shift : (m a p : ℕ) → bit m (a + p) ≡ bit (m / 2 ^ a) p
+bit_shift m a p = ap (λ (x : ℕ). x % 2) (sym (shr-shr m a p))
 
 -- the lowest p + 1 bits: bit p, and the p below it
 pub low_step : (m p : ℕ) → m % 2 ^ suc p ≡ bit m p * 2 ^ p + m % 2 ^ p
@@ -54,30 +54,30 @@ low_step m p = ap (λ (k : ℕ). m % 2 ^ k) (sym (one-add p)) ∙ mod-pow-add m 
 
 -- ---- a word with no one is zero
 
-pub no-one-low : (m k : ℕ) → ((p : ℕ) → p < k → bit m p ≡ 0) → m % 2 ^ k ≡ 0
-no-one-low m zero f = mod-one m
-no-one-low m (suc k) f =
+pub no_one_low : (m k : ℕ) → ((p : ℕ) → p < k → bit m p ≡ 0) → m % 2 ^ k ≡ 0
+no_one_low m zero f = mod-one m
+no_one_low m (suc k) f =
     low_step m k ∙ (let e : bit m k ≡ 0 = f k (omega arith) in
-    let r : m % 2 ^ k ≡ 0 = no-one-low m k (λ p h. f p (omega arith)) in
+    let r : m % 2 ^ k ≡ 0 = no_one_low m k (λ p h. f p (omega arith)) in
     rw (e, r) (omega arith))
 
 -- a word below 2 ^ k that is not zero has a one below bit k
 pub some_one : (m k : ℕ) → m < 2 ^ k → (m ≡ 0 → ⊥) → First (contains m) k
 some_one m k h z =
-    ⊎_elim (λ w. w) (λ f. absurd (z (sym (mod-eq_of_lt h) ∙ no-one-low m k (λ p l. lacks-bit m p (f p l))))) (first_or_none (contains m) k)
+    ⊎_elim (λ w. w) (λ f. absurd (z (sym (mod-eq_of_lt h) ∙ no_one_low m k (λ p l. lacks_bit m p (f p l))))) (first_or_none (contains m) k)
 
 pub zero_bit : (p : ℕ) → bit 0 p ≡ 0
 zero_bit p = ap (λ (x : ℕ). x % 2) (zero-div (2 ^ p))
 
 -- ---- counts
 
-ones-grow : (m p q : ℕ) → ones_below m p ≤ ones_below m (p + q)
+ones_grow : (m p q : ℕ) → ones_below m p ≤ ones_below m (p + q)
 unfolding ones_below
-ones-grow m p zero = rw add-zero (le_refl _)
-ones-grow m p (suc q) = rw add-suc (let h = ones-grow m p q in omega arith)
+ones_grow m p zero = rw add-zero (le_refl _)
+ones_grow m p (suc q) = rw add-suc (let h = ones_grow m p q in omega arith)
 
-pub ones-mono : (m : ℕ) {p q : ℕ} → p ≤ q → ones_below m p ≤ ones_below m q
-ones-mono m {p} {q} h = subst (λ (k : ℕ). ones_below m p ≤ ones_below m k) (add-sub_of_le h) (ones-grow m p (q - p))
+pub ones_mono : (m : ℕ) {p q : ℕ} → p ≤ q → ones_below m p ≤ ones_below m q
+ones_mono m {p} {q} h = subst (λ (k : ℕ). ones_below m p ≤ ones_below m k) (add-sub_of_le h) (ones_grow m p (q - p))
 
 pub ones_at_most : (m p : ℕ) → ones_below m p ≤ p
 unfolding ones_below
@@ -85,15 +85,15 @@ ones_at_most m zero = omega arith
 ones_at_most m (suc p) = let h = ones_at_most m p in let b = bit_le m p in omega arith
 
 -- a one at p counts above p
-pub ones-past : (m : ℕ) {p q : ℕ} → bit m p ≡ 1 → p < q → ones_below m p + 1 ≤ ones_below m q
+pub ones_past : (m : ℕ) {p q : ℕ} → bit m p ≡ 1 → p < q → ones_below m p + 1 ≤ ones_below m q
 unfolding ones_below
-ones-past m {p} {q} e h = let w : ones_below m (suc p) ≤ ones_below m q = ones-mono m h in omega arith
+ones_past m {p} {q} e h = let w : ones_below m (suc p) ≤ ones_below m q = ones_mono m h in omega arith
 
 -- the ones below bit a + p: those below bit a, and those of the rest
-pub ones-shift : (m a p : ℕ) → ones_below m (a + p) ≡ ones_below m a + ones_below (m / 2 ^ a) p
+pub ones_shift : (m a p : ℕ) → ones_below m (a + p) ≡ ones_below m a + ones_below (m / 2 ^ a) p
 unfolding ones_below
-ones-shift m a zero = rw (add-zero, add-zero)
-ones-shift m a (suc p) = rw (add-suc) (let h = ones-shift m a p in let e = bit-shift m a p in omega arith)
+ones_shift m a zero = rw (add-zero, add-zero)
+ones_shift m a (suc p) = rw (add-suc) (let h = ones_shift m a p in let e = bit_shift m a p in omega arith)
 
 ones_bit : (b : ℕ) → b ≤ 1 → Count.ones b ≡ b
 unfolding Count.ones Count.ones_in
@@ -102,17 +102,17 @@ ones_bit (suc zero) h = refl
 ones_bit (suc (suc b)) h = absurd (omega arith)
 
 -- the machine's count of the lowest k bits
-ones-count : (m k : ℕ) → Count.ones (m % 2 ^ k) ≡ ones_below m k
+ones_count : (m k : ℕ) → Count.ones (m % 2 ^ k) ≡ ones_below m k
 unfolding ones_below
-ones-count m zero = ap Count.ones (mod-one m) ∙ ones_bit 0 (omega arith)
-ones-count m (suc k) =
-    let a = ones-count m k in
+ones_count m zero = ap Count.ones (mod-one m) ∙ ones_bit 0 (omega arith)
+ones_count m (suc k) =
+    let a = ones_count m k in
     let b = ones_bit (bit m k) (bit_le m k) in
     let e = Count.ones_cat k (bit m k) (m % 2 ^ k) (mod-lt m (pow_pos k)) in
     ap Count.ones (low_step m k) ∙ (e ∙ (let z : Count.ones (bit m k) + Count.ones (m % 2 ^ k) ≡ ones_below m k + bit m k = omega arith in z))
 
 pub count_ones : (m : ℕ) → m < 2 ^ 64 → Count.ones m ≡ ones m
-count_ones m h = ap Count.ones (sym (mod-eq_of_lt h)) ∙ ones-count m 64
+count_ones m h = ap Count.ones (sym (mod-eq_of_lt h)) ∙ ones_count m 64
 
 -- ---- the bit that has i ones below it
 
@@ -124,13 +124,13 @@ too_few : (m i q : ℕ) → ones_below m q ≤ i → (k : ℕ) → k < q → Wan
 too_few m i q h k l = go (contains m k) refl
   where
     go : (t : Bool) → contains m k ≡ t → (t && eqb (ones_below m k) i) ≡ false
-    go true e = ne_eqb _ _ (λ (q' : ones_below m k ≡ i). let w = ones-past m (contains-bit m k e) l in omega arith)
+    go true e = ne_eqb _ _ (λ (q' : ones_below m k ≡ i). let w = ones_past m (contains_bit m k e) l in omega arith)
     go false e = refl
 
-pub position-is : (m i p : ℕ) → p < 64 → bit m p ≡ 1 → ones_below m p ≡ i → position_at m i ≡ p
+pub position_is : (m i p : ℕ) → p < 64 → bit m p ≡ 1 → ones_below m p ≡ i → position_at m i ≡ p
 unfolding position_at
-position-is m i p h b o =
-    least_at (Wanted m i) 64 64 p h (and_both (bit-contains m p b) (eq-eqb _ _ o)) (too_few m i p (omega arith))
+position_is m i p h b o =
+    least_at (Wanted m i) 64 64 p h (and_both (bit_contains m p b) (eq-eqb _ _ o)) (too_few m i p (omega arith))
 
 -- p is a one of the mask with i ones below it
 pub record OneAt (m i p : ℕ) : Type 0 where
@@ -151,16 +151,16 @@ one_below m i (suc k) l h = go (dec_lt i (ones_below m k)) (one_below m i k (ome
         (k, record { below = l; one = omega arith; rank = omega arith })
 
 -- so the position of each MAI below N is a one with MAI ones below it
-pub position-one : (m i : ℕ) → i < ones m → OneAt m i (position_at m i)
-position-one m i h =
+pub position_one : (m i : ℕ) → i < ones m → OneAt m i (position_at m i)
+position_one m i h =
     let w = one_below m i 64 (le_refl 64) h in
     let o = w.1 in
-    subst (λ (p : ℕ). OneAt m i p) (sym (position-is m i w.0 o.below o.one o.rank)) o
+    subst (λ (p : ℕ). OneAt m i p) (sym (position_is m i w.0 o.below o.one o.rank)) o
 
 -- ---- masks that share a one
 
-bit-and : (a b p : ℕ) → bit (bit_and a b) p ≡ min (bit a p) (bit b p)
-bit-and a b p =
+bit_of_and : (a b p : ℕ) → bit (bit_and a b) p ≡ min (bit a p) (bit b p)
+bit_of_and a b p =
     let e = and_step (a / 2 ^ p) (b / 2 ^ p) in
     let x = bit_le a p in
     let y = bit_le b p in
@@ -169,21 +169,21 @@ bit-and a b p =
 -- both masks contain p: so does the AND of the masks
 both_one : (a b p : ℕ) → (contains a p && contains b p) ≡ true → bit (bit_and a b) p ≡ 1
 both_one a b p h =
-    let x = contains-bit a p (and_left (contains a p) (contains b p) h) in
-    let y = contains-bit b p (and_right (contains a p) (contains b p) h) in
-    bit-and a b p ∙ (omega arith)
+    let x = contains_bit a p (and_left (contains a p) (contains b p) h) in
+    let y = contains_bit b p (and_right (contains a p) (contains b p) h) in
+    bit_of_and a b p ∙ (omega arith)
 
-one-both : (a b p : ℕ) → bit (bit_and a b) p ≡ 1 → (contains a p && contains b p) ≡ true
-one-both a b p h =
-    let e = bit-and a b p in
+one_both : (a b p : ℕ) → bit (bit_and a b) p ≡ 1 → (contains a p && contains b p) ≡ true
+one_both a b p h =
+    let e = bit_of_and a b p in
     let x = bit_le a p in
     let y = bit_le b p in
-    and_both (bit-contains a p (omega arith)) (bit-contains b p (omega arith))
+    and_both (bit_contains a p (omega arith)) (bit_contains b p (omega arith))
 
 -- the AND of two masks is zero exactly if they share no one
-pub share-and : (a b : ℕ) → a < 2 ^ 64 → b < 2 ^ 64 → not (eqb (bit_and a b) 0) ≡ share_one a b
+pub share_and : (a b : ℕ) → a < 2 ^ 64 → b < 2 ^ 64 → not (eqb (bit_and a b) 0) ≡ share_one a b
 unfolding share_one
-share-and a b ha hb = go (eqb (bit_and a b) 0) refl
+share_and a b ha hb = go (eqb (bit_and a b) 0) refl
   where
     go : (t : Bool) → eqb (bit_and a b) 0 ≡ t → not t ≡ any_below (λ p. contains a p && contains b p) 64
     go true e =
@@ -192,37 +192,37 @@ share-and a b ha hb = go (eqb (bit_and a b) 0) refl
         one_is_not_zero (sym (both_one a b p h) ∙ (ap (λ (n : ℕ). bit n p) (eqb-true _ _ e) ∙ zero_bit p)))))
     go false e =
         let w = some_one (bit_and a b) 64 (and_lt 64 a b ha hb) (eqb-false _ _ e) in
-        sym (any_at (λ p. contains a p && contains b p) 64 w.place w.below (one-both a b w.place (contains-bit (bit_and a b) w.place w.passes)))
+        sym (any_at (λ p. contains a p && contains b p) 64 w.place w.below (one_both a b w.place (contains_bit (bit_and a b) w.place w.passes)))
 
 -- ---- a one at or above a length
 
 high_bit : (m n p : ℕ) → n ≤ p → bit m p ≡ bit (m / 2 ^ n) (p - n)
-high_bit m n p h = ap (λ (k : ℕ). bit m k) (sym (add-sub_of_le h)) ∙ bit-shift m n (p - n)
+high_bit m n p h = ap (λ (k : ℕ). bit m k) (sym (add-sub_of_le h)) ∙ bit_shift m n (p - n)
 
 -- what is left of a mask without its lowest n bits is zero exactly if it has no one at or above n
-pub above-shift : (m n : ℕ) → m < 2 ^ 64 → n < 64 → not (eqb (m / 2 ^ n) 0) ≡ one_at_or_above m n
+pub above_shift : (m n : ℕ) → m < 2 ^ 64 → n < 64 → not (eqb (m / 2 ^ n) 0) ≡ one_at_or_above m n
 unfolding one_at_or_above
-above-shift m n hm hn = go (eqb (m / 2 ^ n) 0) refl
+above_shift m n hm hn = go (eqb (m / 2 ^ n) 0) refl
   where
     go : (t : Bool) → eqb (m / 2 ^ n) 0 ≡ t → not t ≡ any_below (λ p. leb n p && contains m p) 64
     go true e =
         sym (any_none (λ p. leb n p && contains m p) 64 (λ p l.
         refute (leb n p && contains m p) (λ h.
-        one_is_not_zero (sym (contains-bit m p (and_right (leb n p) (contains m p) h))
+        one_is_not_zero (sym (contains_bit m p (and_right (leb n p) (contains m p) h))
         ∙ (high_bit m n p (leb-true _ _ (and_left (leb n p) (contains m p) h))
         ∙ (ap (λ (k : ℕ). bit k (p - n)) (eqb-true _ _ e) ∙ zero_bit (p - n)))))))
     go false e =
         let room : m / 2 ^ n < 2 ^ (64 - n) = shr_lt (64 - n) n (subst (λ (k : ℕ). m < 2 ^ k) (sym (sub-add_cancel (le_of_lt hn))) hm) in
         let w = some_one (m / 2 ^ n) (64 - n) room (eqb-false _ _ e) in
         let k = w.place in
-        let here : bit m (n + k) ≡ 1 = bit-shift m n k ∙ contains-bit (m / 2 ^ n) k w.passes in
+        let here : bit m (n + k) ≡ 1 = bit_shift m n k ∙ contains_bit (m / 2 ^ n) k w.passes in
         let b = w.below in
-        sym (any_at (λ p. leb n p && contains m p) 64 (n + k) (omega arith) (and_both (le-leb n (n + k) (omega arith)) (bit-contains m (n + k) here)))
+        sym (any_at (λ p. leb n p && contains m p) 64 (n + k) (omega arith) (and_both (le-leb n (n + k) (omega arith)) (bit_contains m (n + k) here)))
 
 -- a mask of 64 bits has no one at or above 64
-pub above-none : (m n : ℕ) → 64 ≤ n → one_at_or_above m n ≡ false
+pub above_none : (m n : ℕ) → 64 ≤ n → one_at_or_above m n ≡ false
 unfolding one_at_or_above
-above-none m n h =
+above_none m n h =
     any_none (λ p. leb n p && contains m p) 64 (λ p l. ap (λ (t : Bool). t && contains m p) (lt-leb n p (omega arith)))
 
 pub bit_past : (m p : ℕ) → m < 2 ^ 64 → 64 ≤ p → bit m p ≡ 0

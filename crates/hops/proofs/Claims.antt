@@ -11,24 +11,24 @@ use borrow.Author.Tests.{eqb-true, ltb-true, not-false}
 use Rattle.answers.specs.Outcome.{Outcome, refused, accepted}
 use Rattle.answers.specs.Claims.{NoCause}
 use Rattle.answers.specs.Search.{all_below}
-use Rattle.answers.proofs.Decide.{fair-answer, passes, decide-answered, answered, accepted-has-none}
-use Rattle.answers.proofs.Search.{all-at}
+use Rattle.answers.proofs.Decide.{fair_answer, passes, decide_answered, answered, accepted_has_none}
+use Rattle.answers.proofs.Search.{all_at}
 use Rattle.hops.specs.Masks.{ones, one_at_or_above}
 use Rattle.hops.specs.Allocation.{is_allocation}
 use Rattle.hops.specs.Hopping.{rntable, line_position, line_arfcn, position_causes, position_of, hop_causes, hop_of}
 use Rattle.hops.specs.Clash.{Physical}
 use Rattle.hops.specs.Claims.{FairCalls, Apart, AtOne, Position, entry_at, ByPosition, Nbin, Rntable, Words}
-use Rattle.hops.proofs.Apart.{Fit, apart, line-one, line-within}
-use Rattle.hops.proofs.Bits.{count_ones, share-and, above-shift, bit_past}
-use Rattle.hops.proofs.Causes.{position-ascends, hop-ascends}
-use Rattle.hops.proofs.Mai.{rn-le, index-lt, nbin-room, nbin-least, mai-lt}
+use Rattle.hops.proofs.Apart.{Fit, apart, line_one, line_within}
+use Rattle.hops.proofs.Bits.{count_ones, share_and, above_shift, bit_past}
+use Rattle.hops.proofs.Causes.{position_ascends, hop_ascends}
+use Rattle.hops.proofs.Mai.{rn_le, index_lt, nbin_room, nbin_least, mai_lt}
 
-pub fair-calls : FairCalls
+pub fair_calls : FairCalls
 unfolding position_of hop_of
-fair-calls =
+fair_calls =
     record {
-      position = λ length m hsn maio fn. fair-answer _ (position_causes length m hsn maio fn) (position-ascends length m hsn maio fn);
-      hop = λ ca m hsn maio fn. fair-answer _ (hop_causes ca m hsn maio fn) (hop-ascends ca m hsn maio fn);
+      position = λ length m hsn maio fn. fair_answer _ (position_causes length m hsn maio fn) (position_ascends length m hsn maio fn);
+      hop = λ ca m hsn maio fn. fair_answer _ (hop_causes ca m hsn maio fn) (hop_ascends ca m hsn maio fn);
     }
 
 -- ---- what an accepted call shows
@@ -37,21 +37,21 @@ module _ (length m hsn maio fn : ℕ) (free : NoCause (position_causes length m 
   within : one_at_or_above m length ≡ false
   within = free.1.0.1.0
 
-  maio-below : maio < ones m
-  maio-below = ltb-true _ _ (not-false _ free.1.1.0.0)
+  maio_below : maio < ones m
+  maio_below = ltb-true _ _ (not-false _ free.1.1.0.0)
 
 pub position : Position
 unfolding Position position_of
 position length m hsn maio fn p e =
-    let w = accepted-has-none (line_position m hsn maio fn) (position_causes length m hsn maio fn) p e in
-    let h = maio-below length m hsn maio fn w.1 in
-    let o = line-one m hsn maio fn h in
+    let w = accepted_has_none (line_position m hsn maio fn) (position_causes length m hsn maio fn) p e in
+    let h = maio_below length m hsn maio fn w.1 in
+    let o = line_one m hsn maio fn h in
     subst (AtOne length m hsn maio fn) w.0
     (record {
       is_one = o.one;
       mai_ones_below = o.rank;
-      mai_below_n = mai-lt (ones m) hsn maio fn (omega arith);
-      in_allocation = line-within m hsn maio fn h length (within length m hsn maio fn w.1);
+      mai_below_n = mai_lt (ones m) hsn maio fn (omega arith);
+      in_allocation = line_within m hsn maio fn h length (within length m hsn maio fn w.1);
     })
 
 -- ---- two lines
@@ -59,38 +59,38 @@ position length m hsn maio fn p e =
 module _ (ca : List ℕ) (v : Physical) (fn a : ℕ) (e : hop_of ca v.mask v.hsn v.maio fn ≡ accepted a) where
   shown : (line_arfcn ca v.mask v.hsn v.maio fn ≡ a) × NoCause (hop_causes ca v.mask v.hsn v.maio fn)
   unfolding hop_of
-  shown = accepted-has-none (line_arfcn ca v.mask v.hsn v.maio fn) (hop_causes ca v.mask v.hsn v.maio fn) a e
+  shown = accepted_has_none (line_arfcn ca v.mask v.hsn v.maio fn) (hop_causes ca v.mask v.hsn v.maio fn) a e
 
   fit : Fit ca v
-  fit = record { within = within (length ca) v.mask v.hsn v.maio fn shown.1.1; maio-below = maio-below (length ca) v.mask v.hsn v.maio fn shown.1.1 }
+  fit = record { within = within (length ca) v.mask v.hsn v.maio fn shown.1.1; maio_below = maio_below (length ca) v.mask v.hsn v.maio fn shown.1.1 }
 
   allocated : is_allocation ca ≡ true
   allocated = not-false _ shown.1.0.0
 
-pub lines-apart : Apart
+pub lines_apart : Apart
 unfolding Apart
-lines-apart ca v w t c fn a b ev ew q =
+lines_apart ca v w t c fn a b ev ew q =
     apart ca v w (allocated ca v fn a ev) (fit ca v fn a ev) (fit ca w fn b ew) t c fn
     ((shown ca v fn a ev).0 ∙ (q ∙ sym (shown ca w fn b ew).0))
 
 -- ---- hop by position
 
-entry-answered : (ca : List ℕ) (o : Outcome ℕ) → answered (λ (p : ℕ). get_or ca p 0) o ≡ entry_at ca o
-entry-answered ca (refused r) = refl
-entry-answered ca (accepted p) = refl
+entry_answered : (ca : List ℕ) (o : Outcome ℕ) → answered (λ (p : ℕ). get_or ca p 0) o ≡ entry_at ca o
+entry_answered ca (refused r) = refl
+entry_answered ca (accepted p) = refl
 
-pub by-position : ByPosition
+pub by_position : ByPosition
 unfolding ByPosition hop_of position_of
-by-position ca m hsn maio fn h =
+by_position ca m hsn maio fn h =
     passes _ (position_causes (length ca) m hsn maio fn) (line_arfcn ca m hsn maio fn) (ap not h, tt)
-    ∙ (decide-answered (λ (p : ℕ). get_or ca p 0) (position_causes (length ca) m hsn maio fn) (line_position m hsn maio fn)
-    ∙ entry-answered ca (position_of (length ca) m hsn maio fn))
+    ∙ (decide_answered (λ (p : ℕ). get_or ca p 0) (position_causes (length ca) m hsn maio fn) (line_position m hsn maio fn)
+    ∙ entry_answered ca (position_of (length ca) m hsn maio fn))
 
 -- ---- NBIN and RNTABLE
 
-pub nbin-bits : Nbin
+pub nbin_bits : Nbin
 unfolding Nbin
-nbin-bits n h = let b : n < 2 ^ 63 = lt_trans (let q : n < 65 = omega arith in q) (lit< tt) in (nbin-room n b, nbin-least n b)
+nbin_bits n h = let b : n < 2 ^ 63 = lt_trans (let q : n < 65 = omega arith in q) (lit< tt) in (nbin_room n b, nbin_least n b)
 
 -- where a number first stands in a list
 unfoldable place_in : List ℕ → ℕ → ℕ
@@ -106,17 +106,17 @@ unfolding all_below rntable place_in
 all_first = refl
 
 first : (i : ℕ) → i < 114 → place_in rntable (get_or rntable i 0) ≡ i
-first i h = eqb-true _ _ (all-at is_first 114 all_first i h)
+first i h = eqb-true _ _ (all_at is_first 114 all_first i h)
 
 pub table : Rntable
 unfolding rntable
 table =
     record {
       entries = refl;
-      at_most_127 = rn-le;
+      at_most_127 = rn_le;
       none_twice = λ i j hi hj e. sym (first i hi) ∙ (ap (place_in rntable) e ∙ first j hj);
-      within = λ hsn t1 t3 h k. index-lt hsn t1 t3 (omega arith) k;
+      within = λ hsn t1 t3 h k. index_lt hsn t1 t3 (omega arith) k;
     }
 
 pub words : Words
-words = record { count = count_ones; overlap = share-and; membership = bit_past; shifted = above-shift }
+words = record { count = count_ones; overlap = share_and; membership = bit_past; shifted = above_shift }

@@ -9,7 +9,7 @@ use lib.Dec.{ltb, leb, eqb, lit<}
 use lib.ListN.{get_or}
 use borrow.Author.Tests.{lt-ltb, ltb-true, ltb-false, leb-true, eq-eqb, ne_eqb}
 use Rattle.answers.specs.Search.{all_below, least}
-use Rattle.answers.proofs.Search.{all-at, First, first_of, least_first}
+use Rattle.answers.proofs.Search.{all_at, First, first_of, least_first}
 use Rattle.answers.proofs.Tables.{every, at_most}
 use Rattle.clock.specs.declared.Frame.{Frame}
 use Rattle.clock.specs.Clock.{parts_of}
@@ -18,13 +18,13 @@ use Rattle.hops.specs.Hopping.{rntable, nbin, M', T', S, mai_of}
 -- ---- RNTABLE
 
 -- no entry passes 127: one test over the table
-pub rn-le : (k : ℕ) → get_or rntable k 0 ≤ 127
+pub rn_le : (k : ℕ) → get_or rntable k 0 ≤ 127
 unfolding rntable every
-rn-le k = at_most 127 rntable refl k
+rn_le k = at_most 127 rntable refl k
 
 -- HSN xor (T1 mod 64), plus T3, is an entry
-pub index-lt : (hsn t1 t3 : ℕ) → hsn < 64 → t3 ≤ 50 → bit_xor hsn (t1 % 64) + t3 < 114
-index-lt hsn t1 t3 h k = omega (arith, xor_lt 6 hsn (t1 % 64) h (mod-lt t1 (lit< tt)))
+pub index_lt : (hsn t1 t3 : ℕ) → hsn < 64 → t3 ≤ 50 → bit_xor hsn (t1 % 64) + t3 < 114
+index_lt hsn t1 t3 h k = omega (arith, xor_lt 6 hsn (t1 % 64) h (mod-lt t1 (lit< tt)))
 
 -- ---- NBIN
 
@@ -37,23 +37,23 @@ module _ (n : ℕ) (h : n < 2 ^ 63) where
   unfolding nbin
   width_is = least_first (λ (k : ℕ). ltb n (2 ^ k)) 64 64 width
 
-  pub nbin-room : n < 2 ^ nbin n
-  nbin-room = subst (λ (k : ℕ). n < 2 ^ k) (sym width_is) (ltb-true _ _ width.passes)
+  pub nbin_room : n < 2 ^ nbin n
+  nbin_room = subst (λ (k : ℕ). n < 2 ^ k) (sym width_is) (ltb-true _ _ width.passes)
 
-  pub nbin-least : (k : ℕ) → k < nbin n → 2 ^ k ≤ n
-  nbin-least k l = ltb-false _ _ (width.none k (subst (λ (m : ℕ). k < m) width_is l))
+  pub nbin_least : (k : ℕ) → k < nbin n → 2 ^ k ≤ n
+  nbin_least k l = ltb-false _ _ (width.none k (subst (λ (m : ℕ). k < m) width_is l))
 
 -- for N up to 64 it is at most 7: one test over the 65 numbers
-pub nbin-le : (n : ℕ) → n ≤ 64 → nbin n ≤ 7
+pub nbin_le : (n : ℕ) → n ≤ 64 → nbin n ≤ 7
 unfolding nbin least all_below
-nbin-le n h = leb-true _ _ (all-at (λ (k : ℕ). leb (nbin k) 7) 65 refl n (omega arith))
+nbin_le n h = leb-true _ _ (all_at (λ (k : ℕ). leb (nbin k) 7) 65 refl n (omega arith))
 
 -- ---- S
 
 -- S is below N
-pub s-lt : (n hsn : ℕ) (f : Frame) → 0 < n → S n hsn f < n
+pub s_lt : (n hsn : ℕ) (f : Frame) → 0 < n → S n hsn f < n
 unfolding S
-s-lt n hsn f h = go (ltb (M' n hsn f) n) refl
+s_lt n hsn f h = go (ltb (M' n hsn f) n) refl
   where
     go : (t : Bool) → ltb (M' n hsn f) n ≡ t → cond t (M' n hsn f) ((M' n hsn f + T' n f) % n) < n
     go true e = ltb-true _ _ e
@@ -62,18 +62,18 @@ s-lt n hsn f h = go (ltb (M' n hsn f) n) refl
 -- ---- MAI
 
 module _ (n hsn maio fn : ℕ) where
-  pub mai-cyclic : hsn ≡ 0 → (fn + maio) % n ≡ mai_of n hsn maio fn
+  pub mai_cyclic : hsn ≡ 0 → (fn + maio) % n ≡ mai_of n hsn maio fn
   unfolding mai_of
-  mai-cyclic e = sym (ap (λ (t : Bool). cond t ((fn + maio) % n) ((S n hsn (parts_of fn) + maio) % n)) (eq-eqb _ _ e))
+  mai_cyclic e = sym (ap (λ (t : Bool). cond t ((fn + maio) % n) ((S n hsn (parts_of fn) + maio) % n)) (eq-eqb _ _ e))
 
-  pub mai-random : (hsn ≡ 0 → ⊥) → (S n hsn (parts_of fn) + maio) % n ≡ mai_of n hsn maio fn
+  pub mai_random : (hsn ≡ 0 → ⊥) → (S n hsn (parts_of fn) + maio) % n ≡ mai_of n hsn maio fn
   unfolding mai_of
-  mai-random e = sym (ap (λ (t : Bool). cond t ((fn + maio) % n) ((S n hsn (parts_of fn) + maio) % n)) (ne_eqb _ _ e))
+  mai_random e = sym (ap (λ (t : Bool). cond t ((fn + maio) % n) ((S n hsn (parts_of fn) + maio) % n)) (ne_eqb _ _ e))
 
   -- MAI is below N
-  pub mai-lt : 0 < n → mai_of n hsn maio fn < n
+  pub mai_lt : 0 < n → mai_of n hsn maio fn < n
   unfolding mai_of
-  mai-lt h = go (eqb hsn 0)
+  mai_lt h = go (eqb hsn 0)
     where
       go : (t : Bool) → cond t ((fn + maio) % n) ((S n hsn (parts_of fn) + maio) % n) < n
       go true = mod-lt (fn + maio) h

@@ -7,10 +7,10 @@ use lib.ListN.{length, take, get_or}
 use lib.Pow.{shr-shr}
 use Rattle.layouts.specs.Layouts.{bits}
 
-pub length-bits : (n word : ℕ) → length (bits n word) ≡ n
+pub length_bits : (n word : ℕ) → length (bits n word) ≡ n
 unfolding bits
-length-bits zero word = refl
-length-bits (suc n) word = ap suc (length-bits n word)
+length_bits zero word = refl
+length_bits (suc n) word = ap suc (length_bits n word)
 
 pub bit_at : (n word k : ℕ) → k < n → get_or (bits n word) k 0 ≡ word / 2 ^ (n - 1 - k) % 2
 unfolding bits
@@ -19,8 +19,8 @@ bit_at (suc n) word zero h = ap (λ (m : ℕ). word / 2 ^ m % 2) (omega arith)
 bit_at (suc n) word (suc k) h = bit_at n word k (le_of_suc-le-suc h) ∙ ap (λ (m : ℕ). word / 2 ^ m % 2) (omega arith)
 
 -- the number's higher bits are its first
-pub bits-high : (n m word : ℕ) → bits n (word / 2 ^ m) ≡ take n (bits (n + m) word)
+pub bits_high : (n m word : ℕ) → bits n (word / 2 ^ m) ≡ take n (bits (n + m) word)
 unfolding bits
-bits-high zero m word = refl
-bits-high (suc n) m word =
-    rw (suc-add n m, shr-shr word m n, add_comm m n, bits-high n m word) refl
+bits_high zero m word = refl
+bits_high (suc n) m word =
+    rw (suc-add n m, shr-shr word m n, add_comm m n, bits_high n m word) refl

@@ -12,26 +12,18 @@ pub borders : Borders
 unfolding decide any_of any_below least bits normal frequency_correction synchronization dummy access row_of room built taken byte_above_one build_of build_normal_of take_of take_normal_of value
 borders =
     record {
-      code_7 = refl;
-      code_8 = refl;
       take_code_7 = refl;
-      take_code_8 = refl;
       codes = refl;
       training_3 = refl;
       training_6 = refl;
-      frequency_correction = refl;
       payload_read = refl;
       payload_written = refl;
       burst_written = refl;
       burst_read = refl;
       payload_bytes = refl;
       burst_bytes = refl;
-      short_payload = refl;
       byte_of_2 = refl;
-      lowest_bit = refl;
-      short_and_wrong = refl;
       normal_bits = refl;
       synchronization_bits = refl;
       access_bits = refl;
-      there_and_back = refl;
     }

@@ -5,7 +5,7 @@ use mathlib.Core.Path.{refl}
 use mathlib.Core.List.{List, ◌∷◌}
 use Rattle.answers.specs.Outcome.{Cause, ascending_from, decide}
 use Rattle.answers.specs.Claims.{FairAnswer}
-use Rattle.answers.proofs.Decide.{fair-answer}
+use Rattle.answers.proofs.Decide.{fair_answer}
 use Rattle.layouts.specs.Layouts.{normal}
 use Rattle.layouts.specs.Rows.{Row, row_of, built, taken}
 use Rattle.layouts.specs.Bursts.{no_code, build_causes, take_causes}
@@ -14,18 +14,18 @@ use Rattle.layouts.specs.Bursts.{no_code, build_causes, take_causes}
 abbrev pub Fair : List Cause → List ℕ → Type 0
 Fair causes answer = FairAnswer answer causes (decide causes answer)
 
-pub build-fair : (row : Row) (payload burst : List ℕ) → Fair (build_causes row payload burst) (built row payload)
+pub build_fair : (row : Row) (payload burst : List ℕ) → Fair (build_causes row payload burst) (built row payload)
 unfolding ascending_from
-build-fair row payload burst = fair-answer _ (build_causes row payload burst) refl
+build_fair row payload burst = fair_answer _ (build_causes row payload burst) refl
 
-pub take-fair : (row : Row) (burst payload : List ℕ) → Fair (take_causes row burst payload) (taken row burst)
+pub take_fair : (row : Row) (burst payload : List ℕ) → Fair (take_causes row burst payload) (taken row burst)
 unfolding ascending_from
-take-fair row burst payload = fair-answer _ (take_causes row burst payload) refl
+take_fair row burst payload = fair_answer _ (take_causes row burst payload) refl
 
-pub build-normal-fair : (tsc : ℕ) (payload burst : List ℕ) → Fair (no_code tsc ∷ build_causes (row_of (normal tsc)) payload burst) (built (row_of (normal tsc)) payload)
+pub build_normal_fair : (tsc : ℕ) (payload burst : List ℕ) → Fair (no_code tsc ∷ build_causes (row_of (normal tsc)) payload burst) (built (row_of (normal tsc)) payload)
 unfolding ascending_from
-build-normal-fair tsc payload burst = fair-answer _ (no_code tsc ∷ build_causes (row_of (normal tsc)) payload burst) refl
+build_normal_fair tsc payload burst = fair_answer _ (no_code tsc ∷ build_causes (row_of (normal tsc)) payload burst) refl
 
-pub take-normal-fair : (tsc : ℕ) (burst payload : List ℕ) → Fair (no_code tsc ∷ take_causes (row_of (normal tsc)) burst payload) (taken (row_of (normal tsc)) burst)
+pub take_normal_fair : (tsc : ℕ) (burst payload : List ℕ) → Fair (no_code tsc ∷ take_causes (row_of (normal tsc)) burst payload) (taken (row_of (normal tsc)) burst)
 unfolding ascending_from
-take-normal-fair tsc burst payload = fair-answer _ (no_code tsc ∷ take_causes (row_of (normal tsc)) burst payload) refl
+take_normal_fair tsc burst payload = fair_answer _ (no_code tsc ∷ take_causes (row_of (normal tsc)) burst payload) refl

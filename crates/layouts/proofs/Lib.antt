@@ -8,5 +8,6 @@ pub mod Printed
 pub mod Sizes
 pub mod Undo
 pub mod WellFormed
+pub mod Examples
 pub mod Borders
 pub mod Claims

@@ -12,21 +12,21 @@ use Rattle.layouts.specs.Bursts.{written, no_code, build_causes, take_causes, bu
 use Rattle.layouts.proofs.WellFormed.{turned_away}
 
 module _ (tsc : ℕ) (h : 7 < tsc) where
-  pub build-normal-refuses : (payload burst : List ℕ) → turned_away (alone 3) burst ≡ build_normal_of tsc payload burst
+  pub build_normal_refuses : (payload burst : List ℕ) → turned_away (alone 3) burst ≡ build_normal_of tsc payload burst
   unfolding build_normal_of
-  build-normal-refuses payload burst = sym (ap (written burst) (stops _ _ _ 0 (lt-ltb 7 tsc h)))
+  build_normal_refuses payload burst = sym (ap (written burst) (stops _ _ _ 0 (lt-ltb 7 tsc h)))
 
-  pub take-normal-refuses : (burst payload : List ℕ) → turned_away (alone 3) payload ≡ take_normal_of tsc burst payload
+  pub take_normal_refuses : (burst payload : List ℕ) → turned_away (alone 3) payload ≡ take_normal_of tsc burst payload
   unfolding take_normal_of
-  take-normal-refuses burst payload = sym (ap (written payload) (stops _ _ _ 0 (lt-ltb 7 tsc h)))
+  take_normal_refuses burst payload = sym (ap (written payload) (stops _ _ _ 0 (lt-ltb 7 tsc h)))
 
 module _ (tsc : ℕ) (h : tsc < 8) where
-  pub build-normal-is : (payload burst : List ℕ) → build_normal_of tsc payload burst ≡ build_of (row_of (normal tsc)) payload burst
+  pub build_normal_is : (payload burst : List ℕ) → build_normal_of tsc payload burst ≡ build_of (row_of (normal tsc)) payload burst
   unfolding build_normal_of build_of
-  build-normal-is payload burst =
+  build_normal_is payload burst =
       ap (written burst) (passes (no_code tsc) (build_causes (row_of (normal tsc)) payload burst) (built (row_of (normal tsc)) payload) (le-ltb 7 tsc (omega arith), tt))
 
-  pub take-normal-is : (burst payload : List ℕ) → take_normal_of tsc burst payload ≡ take_of (row_of (normal tsc)) burst payload
+  pub take_normal_is : (burst payload : List ℕ) → take_normal_of tsc burst payload ≡ take_of (row_of (normal tsc)) burst payload
   unfolding take_normal_of take_of
-  take-normal-is burst payload =
+  take_normal_is burst payload =
       ap (written payload) (passes (no_code tsc) (take_causes (row_of (normal tsc)) burst payload) (taken (row_of (normal tsc)) burst) (le-ltb 7 tsc (omega arith), tt))

@@ -11,13 +11,13 @@ use Rattle.answers.proofs.Tables.{every, at_most}
 use Rattle.layouts.specs.Layouts.{bits, codes, normal, synchronization, dummy, access}
 use Rattle.layouts.specs.Rows.{row_of, built}
 use Rattle.layouts.specs.Claims.{value, Printed, Tails, StandardRows}
-use Rattle.layouts.proofs.Bits.{length-bits}
+use Rattle.layouts.proofs.Bits.{length_bits}
 
 -- n bits of a number are worth its remainder by 2 ^ n
-pub value-bits : (n word : ℕ) → value (bits n word) ≡ word % 2 ^ n
+pub value_bits : (n word : ℕ) → value (bits n word) ≡ word % 2 ^ n
 unfolding bits value
-value-bits zero word = sym (mod-one word)
-value-bits (suc n) word = rw (length-bits n word, value-bits n word) (sym (ap (λ (k : ℕ). word % 2 ^ k) (sym (one-add n)) ∙ mod-pow-add word 1 n))
+value_bits zero word = sym (mod-one word)
+value_bits (suc n) word = rw (length_bits n word, value_bits n word) (sym (ap (λ (k : ℕ). word % 2 ^ k) (sym (one-add n)) ∙ mod-pow-add word 1 n))
 
 -- every code fits 16 bits: one test over the table
 code_fits : (tsc : ℕ) → get_or codes tsc 0 % 2 ^ 16 ≡ get_or codes tsc 0
@@ -28,7 +28,7 @@ pub printed : Printed
 unfolding row_of built bits normal synchronization dummy access value
 printed =
     record {
-      training = λ tsc payload. value-bits 16 (get_or codes tsc 0) ∙ code_fits tsc;
+      training = λ tsc payload. value_bits 16 (get_or codes tsc 0) ∙ code_fits tsc;
       repeat = λ tsc payload. refl;
       extended_training = λ payload. refl;
       synch_sequence = λ payload. refl;
@@ -47,6 +47,6 @@ tails =
       access = λ payload. (refl, refl);
     }
 
-pub standard-rows : StandardRows
+pub standard_rows : StandardRows
 unfolding bits
-standard-rows = record { row_0 = refl; row_1 = refl; row_2 = refl; row_4 = refl; row_5 = refl; row_7 = refl }
+standard_rows = record { row_0 = refl; row_1 = refl; row_2 = refl; row_4 = refl; row_5 = refl; row_7 = refl }

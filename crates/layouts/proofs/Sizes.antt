@@ -9,12 +9,12 @@ use Rattle.layouts.specs.Layouts.{bits, normal, frequency_correction, synchroniz
 use Rattle.layouts.specs.Rows.{Row, row_of, room, built, taken}
 use Rattle.layouts.specs.Bursts.{Written, written, no_code, build_causes, take_causes, build_of, take_of, build_normal_of, take_normal_of}
 use Rattle.layouts.specs.Claims.{Sizes, AllSizes}
-use Rattle.layouts.proofs.Accepted.{accepted-shows}
-use Rattle.layouts.proofs.Undo.{length-built, length_taken}
+use Rattle.layouts.proofs.Accepted.{accepted_shows}
+use Rattle.layouts.proofs.Undo.{length_built, length_taken}
 
-length-written : (lent answer : List ℕ) (cs : List Cause) (n : ℕ) → length answer ≡ n → (written lent (decide cs answer)).refusal ≡ none
+length_written : (lent answer : List ℕ) (cs : List Cause) (n : ℕ) → length answer ≡ n → (written lent (decide cs answer)).refusal ≡ none
     → length (written lent (decide cs answer)).bytes ≡ n
-length-written lent answer cs n h e = ap (λ (w : Written). length w.bytes) (accepted-shows lent answer cs e).0 ∙ h
+length_written lent answer cs n h e = ap (λ (w : Written). length w.bytes) (accepted_shows lent answer cs e).0 ∙ h
 
 -- of any calls that write what is built of a row and what is taken from it
 module _ (row : Row) (size count : ℕ) (long : length row ≡ size) (wide : room row ≡ count) (causes others : List ℕ → List ℕ → List Cause) where
@@ -23,8 +23,8 @@ module _ (row : Row) (size count : ℕ) (long : length row ≡ size) (wide : roo
       record {
         bits = long;
         payload_bits = wide;
-        burst = λ payload lent. length-written lent (built row payload) (causes payload lent) size (length-built row payload ∙ long);
-        payload = λ burst lent. length-written lent (taken row burst) (others burst lent) count (length_taken row burst ∙ wide);
+        burst = λ payload lent. length_written lent (built row payload) (causes payload lent) size (length_built row payload ∙ long);
+        payload = λ burst lent. length_written lent (taken row burst) (others burst lent) count (length_taken row burst ∙ wide);
       }
 
 -- with no other cause
@@ -32,17 +32,17 @@ plain : (row : Row) (size count : ℕ) → length row ≡ size → room row ≡ 
 unfolding build_of take_of
 plain row size count long wide = sizes row size count long wide (build_causes row) (take_causes row)
 
-normal-sizes : (tsc : ℕ) → Sizes (row_of (normal tsc)) 148 116 (build_normal_of tsc) (take_normal_of tsc)
+normal_sizes : (tsc : ℕ) → Sizes (row_of (normal tsc)) 148 116 (build_normal_of tsc) (take_normal_of tsc)
 unfolding row_of room bits normal build_normal_of take_normal_of
-normal-sizes tsc =
+normal_sizes tsc =
     sizes (row_of (normal tsc)) 148 116 refl refl (λ payload burst. no_code tsc ∷ build_causes (row_of (normal tsc)) payload burst)
     (λ burst payload. no_code tsc ∷ take_causes (row_of (normal tsc)) burst payload)
 
-pub all-sizes : AllSizes
+pub all_sizes : AllSizes
 unfolding row_of room bits frequency_correction synchronization dummy access
-all-sizes =
+all_sizes =
     record {
-      normal = normal-sizes;
+      normal = normal_sizes;
       synchronization = plain (row_of synchronization) 148 78 refl refl;
       access = plain (row_of access) 88 36 refl refl;
       frequency_correction = plain (row_of frequency_correction) 148 0 refl refl;

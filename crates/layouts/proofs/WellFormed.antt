@@ -16,11 +16,11 @@ module _ (row : Row) (burst payload read : List ℕ) where
   abbrev pub WellFormed : Type 0
   WellFormed = (length burst ≡ length row) × (length payload ≡ room row) × (byte_above_one read ≡ false)
 
-  pub well-formed : None (malformed row burst payload read).conditions → WellFormed
-  well-formed h = (eqb-true _ _ (not-false _ h.0), eqb-true _ _ (not-false _ h.1.0), h.1.1.0)
+  pub well_formed : None (malformed row burst payload read).conditions → WellFormed
+  well_formed h = (eqb-true _ _ (not-false _ h.0), eqb-true _ _ (not-false _ h.1.0), h.1.1.0)
 
-  pub not-malformed : WellFormed → None (malformed row burst payload read).conditions
-  not-malformed h = (ap not (eq-eqb _ _ h.0), (ap not (eq-eqb _ _ h.1), (h.2, tt)))
+  pub not_malformed : WellFormed → None (malformed row burst payload read).conditions
+  not_malformed h = (ap not (eq-eqb _ _ h.0), (ap not (eq-eqb _ _ h.1), (h.2, tt)))
 
 -- a refused call
 abbrev pub turned_away : Refused → List ℕ → Written

@@ -1,19 +1,12 @@
--- Both sides of each border of the bursts' calls, with the exact answers or refusals and the lent bytes; proofs/Borders.antt computes them.
--- Assumes nothing.
-use Rattle.std.specs.Prelude.{ℕ, ◌≡◌, List, [], ◌∷◌, ◌++◌, map, set, replicate}
+-- Both sides of each border of the bursts' calls, beside those of Examples.antt, with the exact answers or refusals and the lent bytes;
+-- proofs/Borders.antt computes them. Assumes nothing.
+use Rattle.std.specs.Prelude.{ℕ, ◌≡◌, List, [], ◌∷◌, ◌++◌, map, set}
 use Rattle.std.proofs.Math.Option.{Option, none, some}
 use Rattle.answers.specs.Outcome.{Refused, alone}
 use Rattle.layouts.specs.Layouts.{training}
 use Rattle.layouts.specs.Bursts.{Written, build_normal_of, take_normal_of, build_synchronization_of, take_synchronization_of, build_access_of, take_access_of, build_frequency_correction_of, build_dummy_of}
 use Rattle.layouts.specs.Claims.{done, from, value}
-
--- so many bytes that are all the same
-abbrev pub all : ℕ → ℕ → List ℕ
-all byte n = replicate n byte
-
--- a refused call, which writes no lent byte
-abbrev pub refused_with : ℕ → List ℕ → List ℕ → Written
-refused_with number values lent = record { refusal = some (record { number = number; values = values }); bytes = lent }
+use Rattle.layouts.specs.Examples.{all, refused_with}
 
 -- the refusals of calls, if they are refused
 abbrev pub refusals : List Written → List (Option Refused)
@@ -52,19 +45,14 @@ abbrev pub access_with : ℕ → ℕ → Written
 access_with byte k = take_access_of (set access_burst k byte) (all 0 36)
 
 pub record Borders : Type 0 where
-  -- "TSC (training code) 0–7", "3 .. TSC .. out of range"; 3 comes before 14
-  pub code_7 : (build_normal_of 7 (all 0 116) (all 1 148)).refusal ≡ none
-  pub code_8 : build_normal_of 8 [] (all 1 148) ≡ refused_with 3 [] (all 1 148)
+  -- "TSC (training code) 0–7": the other side of 8
   pub take_code_7 : take_normal_of 7 (build_normal_of 7 (all 1 116) (all 0 148)).bytes (all 0 116) ≡ done (all 1 116)
-  pub take_code_8 : take_normal_of 8 [] (all 1 116) ≡ refused_with 3 [] (all 1 116)
   -- "their first 16 bits, first bit highest, hexadecimal", of bursts that are built
   pub codes : map (λ tsc. value (from 61 16 (build_normal_of tsc (all 0 116) (all 0 148)).bytes)) (0 ∷ 1 ∷ 2 ∷ 3 ∷ 4 ∷ 5 ∷ 6 ∷ 7 ∷ [])
       ≡ 0x25C2 ∷ 0x2DDE ∷ 0x43BA ∷ 0x47B4 ∷ 0x1AE4 ∷ 0x4EB0 ∷ 0xA7D8 ∷ 0xEF12 ∷ []
   -- "Bits 16–25 repeat bits 0–9.": the two training codes that are damaged in source document 001
   pub training_3 : training 3 ≡ 0 ∷ 1 ∷ 0 ∷ 0 ∷ 0 ∷ 1 ∷ 1 ∷ 1 ∷ 1 ∷ 0 ∷ 1 ∷ 1 ∷ 0 ∷ 1 ∷ 0 ∷ 0 ∷ 0 ∷ 1 ∷ 0 ∷ 0 ∷ 0 ∷ 1 ∷ 1 ∷ 1 ∷ 1 ∷ 0 ∷ []
   pub training_6 : training 6 ≡ 1 ∷ 0 ∷ 1 ∷ 0 ∷ 0 ∷ 1 ∷ 1 ∷ 1 ∷ 1 ∷ 1 ∷ 0 ∷ 1 ∷ 1 ∷ 0 ∷ 0 ∷ 0 ∷ 1 ∷ 0 ∷ 1 ∷ 0 ∷ 0 ∷ 1 ∷ 1 ∷ 1 ∷ 1 ∷ 1 ∷ []
-  -- whatever was lent, a frequency correction burst is all 0
-  pub frequency_correction : build_frequency_correction_of (all 1 148) ≡ done (all 0 148)
   -- "14 .. a burst or payload, read or to be written, of wrong length": the payload of 116, 78 and 36 bits, read and to be written ..
   pub payload_read : refusals (map (λ n. build_normal_of 0 (all 0 n) (all 1 148)) (115 ∷ 116 ∷ 117 ∷ [])) ++ refusals (map (λ n. build_synchronization_of (all 0 n) (all 1 148)) (77 ∷ 78 ∷ 79 ∷ []))
       ++ refusals (map (λ n. build_access_of (all 0 n) (all 1 88)) (35 ∷ 36 ∷ 37 ∷ []))
@@ -85,11 +73,7 @@ pub record Borders : Type 0 where
       ≡ bits_only ++ bits_only
   pub burst_bytes : refusals (map (λ x. access_with x 49) (0 ∷ 1 ∷ 2 ∷ [])) ++ refusals (access_with 2 0 ∷ access_with 2 87 ∷ []) ≡ bits_only ++ (some (alone 14) ∷ some (alone 14) ∷ [])
   -- a refused call writes no byte
-  pub short_payload : build_access_of (all 0 35) (all 1 88) ≡ refused_with 14 [] (all 1 88)
   pub byte_of_2 : take_access_of (all 2 88) (all 1 36) ≡ refused_with 14 [] (all 1 36)
-  -- "15 a fixed bit differs, with its lowest bit number": where all is 0, bit 2 is the first that differs; 14 comes before 15
-  pub lowest_bit : take_access_of (all 0 88) (all 1 36) ≡ refused_with 15 (2 ∷ []) (all 1 36)
-  pub short_and_wrong : take_access_of (all 0 87) (all 1 36) ≡ refused_with 14 [] (all 1 36)
   -- the bit numbers of clause 5.2, on both sides of each field's border: tail bits to 2 and from 145 on, encrypted bits 3 to 60 and 87 to 144,
   -- training sequence bits 61 to 86
   pub normal_bits : refusals (map (normal_with 1) (0 ∷ 2 ∷ 3 ∷ 60 ∷ 61 ∷ 87 ∷ 144 ∷ 145 ∷ 147 ∷ [])) ++ refusals (normal_with 0 86 ∷ [])
@@ -99,5 +83,3 @@ pub record Borders : Type 0 where
       ≡ bit 0 ∷ bit 2 ∷ none ∷ none ∷ none ∷ none ∷ bit 145 ∷ bit 147 ∷ bit 42 ∷ bit 105 ∷ []
   -- extended tail bits 0 to 7, synch. sequence bits 8 to 48, encrypted bits 49 to 84, tail bits 85 to 87
   pub access_bits : refusals (map (access_with 1) (0 ∷ 7 ∷ 8 ∷ 48 ∷ 49 ∷ 84 ∷ 85 ∷ 87 ∷ [])) ≡ bit 0 ∷ bit 7 ∷ bit 8 ∷ bit 48 ∷ none ∷ none ∷ bit 85 ∷ bit 87 ∷ []
-  -- a burst that was built is accepted, and its payload written
-  pub there_and_back : take_access_of (build_access_of (all 1 36) (all 0 88)).bytes (all 0 36) ≡ done (all 1 36)

@@ -6,13 +6,13 @@ use mathlib.Core.Bool.{Bool, true, false, cond}
 use mathlib.Core.List.{List, [], ◌∷◌}
 use lib.Dec.{eqb}
 use Rattle.answers.specs.Search.{all_below}
-use Rattle.answers.proofs.Search.{all-at}
+use Rattle.answers.proofs.Search.{all_at}
 use Rattle.answers.proofs.Tables.{every}
 use Rattle.answers.proofs.Tests.{and_left, and_right}
 use Rattle.maps.specs.Channels.{Standing}
 use Rattle.maps.specs.Rows.{standing}
 use Rattle.maps.specs.Combinations.{Combination, combinations, rows_among, rows_of}
-use Rattle.maps.proofs.Repeat.{all_frames, every-frame}
+use Rattle.maps.proofs.Repeat.{all_frames, every_frame}
 
 module _ (test : List Standing → Bool) where
   -- in every timeslot, direction and frame of a combination
@@ -31,9 +31,9 @@ module _ (test : List Standing → Bool) where
         go : (b : Bool) → test (standing (rows_among cs n tn d) fn) ≡ true
             → test (standing (cond b (c.rows tn d) (rows_among cs n tn d)) fn) ≡ true
         go true w =
-            every-frame test c.period (c.rows tn d)
-            (all-at (λ (u : ℕ). all_frames test c.period (c.rows tn u)) 2 (all-at in_timeslot 8 (and_left (passes c) _ e) tn hn) d hd) fn
+            every_frame test c.period (c.rows tn d)
+            (all_at (λ (u : ℕ). all_frames test c.period (c.rows tn u)) 2 (all_at in_timeslot 8 (and_left (passes c) _ e) tn hn) d hd) fn
         go false w = w
 
-    pub all-maps : every passes combinations ≡ true → (n : ℕ) → test (standing (rows_of n tn d) fn) ≡ true
-    all-maps e n = among combinations e n
+    pub all_maps : every passes combinations ≡ true → (n : ℕ) → test (standing (rows_of n tn d) fn) ≡ true
+    all_maps e n = among combinations e n

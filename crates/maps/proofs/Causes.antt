@@ -5,6 +5,6 @@ use mathlib.Core.Bool.{true}
 use Rattle.answers.specs.Outcome.{ascending, ascending_from}
 use Rattle.maps.specs.Map.{map_causes}
 
-pub map-ascends : (combination tn fn direction : ℕ) → ascending (map_causes combination tn fn direction) ≡ true
+pub map_ascends : (combination tn fn direction : ℕ) → ascending (map_causes combination tn fn direction) ≡ true
 unfolding ascending_from
-map-ascends combination tn fn direction = refl
+map_ascends combination tn fn direction = refl

@@ -11,11 +11,11 @@ use Rattle.maps.specs.Channels.{Standing}
 use Rattle.maps.specs.Rows.{Row, stands, told, put, standing}
 
 -- a test that every entry passes, at one of them
-pub every-member : {A : Type 0} (test : A → Bool) (xs : List A) → every test xs ≡ true → (x : A) → Memᴰ x xs → test x ≡ true
+pub every_member : {A : Type 0} (test : A → Bool) (xs : List A) → every test xs ≡ true → (x : A) → Memᴰ x xs → test x ≡ true
 unfolding every
-every-member test [] e x m = absurd (Memᴰ.not-nil m)
-every-member test (y ∷ ys) e x m =
-    ⊎_elim (λ q. ap test q ∙ and_left (test y) _ e) (λ w. every-member test ys (and_right (test y) _ e) x w) (Memᴰ.cases_cons m)
+every_member test [] e x m = absurd (Memᴰ.not-nil m)
+every_member test (y ∷ ys) e x m =
+    ⊎_elim (λ q. ap test q ∙ and_left (test y) _ e) (λ w. every_member test ys (and_right (test y) _ e) x w) (Memᴰ.cases_cons m)
 
 -- a row that stands in the frame is told
 pub stood : (rows : List Row) (fn : ℕ) (r : Row) → Memᴰ r rows → stands r fn ≡ true → Memᴰ (told r) (standing rows fn)
@@ -41,10 +41,10 @@ pub record Stood (rows : List Row) (fn : ℕ) (x : Standing) : Type 0 where
   pub tells : told by ≡ x
 
 -- what is told is a row that stands in the frame
-pub standing-stood : (rows : List Row) (fn : ℕ) (x : Standing) → Memᴰ x (standing rows fn) → Stood rows fn x
+pub standing_stood : (rows : List Row) (fn : ℕ) (x : Standing) → Memᴰ x (standing rows fn) → Stood rows fn x
 unfolding standing
-standing-stood [] fn x m = absurd (Memᴰ.not-nil m)
-standing-stood (q ∷ qs) fn x m = go (stands q fn) refl m (standing-stood qs fn x)
+standing_stood [] fn x m = absurd (Memᴰ.not-nil m)
+standing_stood (q ∷ qs) fn x m = go (stands q fn) refl m (standing_stood qs fn x)
   where
     more : Stood qs fn x → Stood (q ∷ qs) fn x
     more w = record { by = w.by; member = Memᴰ.tail w.member; stands = w.stands; tells = w.tells }

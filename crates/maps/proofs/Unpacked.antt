@@ -15,7 +15,7 @@ use Rattle.maps.specs.Combinations.{full_rate, half_rate, uncombined, combined, 
 use Rattle.maps.specs.Numbers.{Numbers, standing_numbers, bytes, numbers_at, standing_of}
 use Rattle.maps.proofs.Same.{same_all, all_same}
 use Rattle.maps.proofs.Repeat.{repeats, all_frames}
-use Rattle.maps.proofs.AllMaps.{passes, all-maps}
+use Rattle.maps.proofs.AllMaps.{passes, all_maps}
 
 abbrev same_numbers : Numbers → Numbers → Bool
 same_numbers n m =
@@ -40,9 +40,9 @@ numbers a b c d f g h i = record { refusal = a; channel = b; subchannel = c; blo
 pub eight : {a b c d f g h i a1 b1 c1 d1 f1 g1 h1 i1 : ℕ} → a ≡ a1 → b ≡ b1 → c ≡ c1 → d ≡ d1 → f ≡ f1 → g ≡ g1 → h ≡ h1 → i ≡ i1 → numbers a b c d f g h i ≡ numbers a1 b1 c1 d1 f1 g1 h1 i1
 eight ea eb ec ed ef eg eh ei = rw (ea, eb, ec, ed, ef, eg, eh, ei)
 
-numbers-same : (n m : Numbers) → same_numbers n m ≡ true → n ≡ m
+numbers_same : (n m : Numbers) → same_numbers n m ≡ true → n ≡ m
 unfolding numbers
-numbers-same n m e =
+numbers_same n m e =
     let a : n.refusal ≡ m.refusal = eqb-true _ _ (and_left (eqb n.refusal m.refusal) _ e) in
     let e1 = and_right (eqb n.refusal m.refusal) _ e in
     let b : n.channel ≡ m.channel = eqb-true _ _ (and_left (eqb n.channel m.channel) _ e1) in
@@ -62,14 +62,14 @@ numbers-same n m e =
 module _ (tn : ℕ) (hn : tn < 8) (d : ℕ) (hd : d < 2) (fn : ℕ) (n : ℕ) where
   passed : whole (standing (rows_of n tn d) fn) ≡ true
   unfolding whole standing_numbers same_all standing_of
-  passed = all-maps whole refl tn hn d hd fn tested n
+  passed = all_maps whole refl tn hn d hd fn tested n
 
-  pub numbers-back : numbers_at (bytes (standing_numbers (standing (rows_of n tn d) fn))) ≡ standing_numbers (standing (rows_of n tn d) fn)
+  pub numbers_back : numbers_at (bytes (standing_numbers (standing (rows_of n tn d) fn))) ≡ standing_numbers (standing (rows_of n tn d) fn)
   unfolding whole
-  numbers-back = numbers-same _ _ (and_left (same_numbers (numbers_at (bytes (standing_numbers (standing (rows_of n tn d) fn)))) (standing_numbers (standing (rows_of n tn d) fn))) _ passed)
+  numbers_back = numbers_same _ _ (and_left (same_numbers (numbers_at (bytes (standing_numbers (standing (rows_of n tn d) fn)))) (standing_numbers (standing (rows_of n tn d) fn))) _ passed)
 
-  pub standing-back : standing_of (numbers_at (bytes (standing_numbers (standing (rows_of n tn d) fn)))) ≡ standing (rows_of n tn d) fn
+  pub standing_back : standing_of (numbers_at (bytes (standing_numbers (standing (rows_of n tn d) fn)))) ≡ standing (rows_of n tn d) fn
   unfolding whole
-  standing-back =
-      ap standing_of numbers-back
+  standing_back =
+      ap standing_of numbers_back
       ∙ all_same _ _ (and_right (same_numbers (numbers_at (bytes (standing_numbers (standing (rows_of n tn d) fn)))) (standing_numbers (standing (rows_of n tn d) fn))) _ passed)

@@ -18,7 +18,7 @@ pub record Numbers : Type 0 where
 abbrev pub no_numbers : ℕ → Numbers
 no_numbers refusal = record { refusal = refusal; channel = 0; subchannel = 0; blocks = 0; block = 0; place = 0; block2 = 0; place2 = 0 }
 
--- nothing stands in the frame: idle. One row, or the two of a TCH burst (a third never stands there: `standing-back`)
+-- nothing stands in the frame: idle. One row, or the two of a TCH burst (a third never stands there: `standing_back`)
 unfoldable pub standing_numbers : List Standing → Numbers
 standing_numbers [] = no_numbers 0
 standing_numbers (x ∷ []) = record { refusal = 0; channel = kind_number x.kind; subchannel = x.subchannel; blocks = 1; block = x.block; place = x.place; block2 = 0; place2 = 0 }

@@ -6,9 +6,9 @@ mod seek;
 
 ghost use Rattle.std.specs.Prelude.{◌≡◌};
 ghost use Rattle.rules.specs.OnAir.{line_of};
-ghost use Rattle.rules.specs.Who.{who_of};
+ghost use Rattle.rules.specs.Who.{who_of, line_found};
 ghost use Rattle.storage.specs.Words.{cell_of};
-ghost use Rattle.onair.specs.Told.{aired, sought};
+ghost use Rattle.onair.specs.Told.{aired, sought, line_sought};
 
 use air::on_air;
 use answers::Refusal;
@@ -61,7 +61,8 @@ pub fn line(cell: &[u32; WORDS], line: u32, number: u32, direction: u32) -> Aire
 
 // Who is on the air: the open line of timeslot `tn` that has this ARFCN in frame `number`, and what it sends there, downlink (0) or uplink (1).
 pub fn who(cell: &[u32; WORDS], tn: u32, arfcn: u32, number: u32, direction: u32) -> Sought
-    ensures { sought result ≡ who_of (cell_of cell.now) tn arfcn number direction }
+    ensures matched { sought result ≡ who_of (cell_of cell.now) tn arfcn number direction }
+    ensures line { line_sought result ≡ line_found (who_of (cell_of cell.now) tn arfcn number direction) }
 {
     if (tn > 7) | ((arfcn > 1023) | ((number >= Frame::HYPERFRAME) | (direction > 1))) {
         return Sought::Refused(Refusal::OutOfRange);

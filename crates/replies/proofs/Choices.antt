@@ -8,7 +8,7 @@ use lib.Dec.{ltb, leb, eqb}
 use lib.ListN.{length, take, drop, get_or, get_or-eq_default}
 use borrow.Author.Tests.{ltb-true, leb-true, eqb-true}
 use Rattle.answers.specs.Search.{all_below}
-use Rattle.answers.proofs.Search.{all-at}
+use Rattle.answers.proofs.Search.{all_at}
 use Rattle.answers.proofs.Tests.{and_left, and_right}
 
 pub first : {b : Bool} (t u : List ℕ) → b ≡ true → cond b t u ≡ t
@@ -48,7 +48,7 @@ module _ (names : List (List ℕ)) (long : length names ≡ 9) (none : get_or na
   -- how wide it is
   pub width : (ws : List ℕ) (most : ℕ) → are_widths names ws most ≡ true → (get_or ws k 0 ≤ most) × (get_or ws k 0 ≡ length (get_or names n []))
   width ws most tested =
-      let t = all-at (λ (j : ℕ). leb (get_or ws j 0) most && eqb (get_or ws j 0) (length (get_or names j []))) 9 tested k (omega arith) in
+      let t = all_at (λ (j : ℕ). leb (get_or ws j 0) most && eqb (get_or ws j 0) (length (get_or names j []))) 9 tested k (omega arith) in
       (leb-true _ _ (and_left (leb (get_or ws k 0) most) _ t), eqb-true _ _ (and_right (leb (get_or ws k 0) most) _ t) ∙ ap length known)
 
   -- it is cut from a text that has it at `start`

@@ -15,67 +15,70 @@ use Rattle.answers.specs.Claims.{Caused}
 use Rattle.answers.proofs.Decide.{decided}
 use Rattle.answers.proofs.Search.{First, any_at, any_none, first_or_none}
 use Rattle.answers.proofs.Tables.{every}
-use Rattle.answers.proofs.Tests.{and_left, and_right, and_both, and-false-right, and-rest, not-both, refute}
+use Rattle.answers.proofs.Tests.{and_left, and_right, and_both, and_false_right, and_rest, not_both, refute}
 use Rattle.hops.specs.Masks.{contains, share_one}
 use Rattle.hops.specs.Clash.{clash}
-use Rattle.hops.proofs.Bits.{bit-contains, contains-bit}
+use Rattle.hops.proofs.Bits.{bit_contains, contains_bit}
 use Rattle.maps.specs.Channels.{is_common}
 use Rattle.maps.specs.Combinations.{rows_of}
 use Rattle.maps.specs.Rows.{Row}
-use Rattle.groups.proofs.Causes.{page-fair}
+use Rattle.groups.proofs.Causes.{page_fair}
 use Rattle.rules.specs.State.{Cell, LineState, Values, line_count, closed_line, is_open, line_at, empty}
 use Rattle.rules.specs.Calls.{step, start_causes, start_of, physical, line_physical, clash_cause, open_causes, subchannels, is_common_line}
 use Rattle.rules.specs.Paging.{common_lines, common_of, page_of}
 use Rattle.rules.specs.History.{Made, opened_with, last_accepted, since, held_by, is_seized, cell_from}
+use Rattle.rules.specs.Carried.{subchannel, common_part}
+use Rattle.rules.specs.CollisionFree.{begin}
 use Rattle.rules.specs.WellFormed.{Closed}
-use Rattle.rules.specs.Claims.{FairCalls, StartsClosed, StandsInTheWay, NamesSmallest, ClashNamesSmallest, HasRow, SubchannelsOfMap, Beside, ReadsTheList, WhoNames, CommonIn, CountedInOrder, CommonLinesInOrder}
-use Rattle.rules.proofs.Tabulate.{tabulate-at}
-use Rattle.rules.proofs.Begun.{Begun}
-use Rattle.rules.proofs.Sound.{allowed-line, or-none-left, or-none-right, Sound, open-line}
+use Rattle.rules.specs.Claims.{FairCalls, StartsClosed, StandsInTheWay, NamesSmallest, ClashNamesSmallest, HasRow, SubchannelsOfMap, Beside, ReadsTheList, HeldHasOwner, WhoNames, CommonIn, CountedInOrder, CommonLinesInOrder}
+use Rattle.rules.proofs.Tabulate.{tabulate_at}
+use Rattle.rules.proofs.Begun.{Begun, start_begun}
+use Rattle.rules.proofs.Sound.{allowed_line, or_none_left, or_none_right, Sound, open_line}
 use Rattle.rules.proofs.Places.{Placed}
-use Rattle.rules.proofs.Causes.{start-fair, open-fair, close-fair, seize-fair, release-fair, line-fair, who-fair, smallest-named}
-use Rattle.rules.proofs.SubchannelRows.{row-subchannel, subchannel-row}
-use Rattle.rules.proofs.WhoAndLine.{who-shown}
-use Rattle.rules.proofs.CommonLines.{at-most-four, common-in}
-use Rattle.rules.proofs.PageAndLine.{has-groups}
-use Rattle.rules.proofs.WellFormed.{is-closed}
+use Rattle.rules.proofs.CollisionFree.{begin_keeps, run_keeps}
+use Rattle.rules.proofs.Causes.{start_fair, open_fair, close_fair, seize_fair, release_fair, line_fair, who_fair, smallest_named}
+use Rattle.rules.proofs.SubchannelRows.{row_subchannel, subchannel_row}
+use Rattle.rules.proofs.WhoAndLine.{who_shown}
+use Rattle.rules.proofs.CommonLines.{at_most_four, common_found}
+use Rattle.rules.proofs.PageAndLine.{has_groups}
+use Rattle.rules.proofs.WellFormed.{is_closed}
 use Rattle.rules.proofs.Known.{known}
 
 -- ---- every call is fair
 
-pub fair-calls : FairCalls
+pub fair_calls : FairCalls
 unfolding page_of
-fair-calls =
+fair_calls =
     record {
-      of_start = start-fair;
-      of_open = open-fair;
-      of_close = close-fair;
-      of_seize = seize-fair;
-      of_release = release-fair;
-      of_line = line-fair;
-      of_who = who-fair;
-      of_page = λ c digits fn. page-fair (common_of c) digits fn;
+      of_start = start_fair;
+      of_open = open_fair;
+      of_close = close_fair;
+      of_seize = seize_fair;
+      of_release = release_fair;
+      of_line = line_fair;
+      of_who = who_fair;
+      of_page = λ c digits fn. page_fair (common_of c) digits fn;
     }
 
 -- ---- start
 
-empty-closed : (ca : List ℕ) (c0 bcc ag p n : ℕ) → n < line_count → Closed (line_at (empty ca c0 bcc ag p) n)
+empty_closed : (ca : List ℕ) (c0 bcc ag p n : ℕ) → n < line_count → Closed (line_at (empty ca c0 bcc ag p) n)
 unfolding empty
-empty-closed ca c0 bcc ag p n h = tabulate-at line_count (λ k. closed_line) _ n h ∙ is-closed
+empty_closed ca c0 bcc ag p n h = tabulate_at line_count (λ k. closed_line) _ n h ∙ is_closed
 
-pub starts-closed : StartsClosed
+pub starts_closed : StartsClosed
 unfolding StartsClosed start_of
-starts-closed ca c0 bcc ag p n h =
-    decided (start_causes ca c0 bcc ag p) (empty ca c0 bcc ag p) (λ (o : Outcome Cell). Closed (line_at (step (empty (0 ∷ []) 0 0 0 2) o).cell n)) (λ r. empty-closed (0 ∷ []) 0 0 0 2 n h)
-    (λ none. empty-closed ca c0 bcc ag p n h)
+starts_closed ca c0 bcc ag p n h =
+    decided (start_causes ca c0 bcc ag p) (empty ca c0 bcc ag p) (λ (o : Outcome Cell). Closed (line_at (step (empty (0 ∷ []) 0 0 0 2) o).cell n)) (λ r. empty_closed (0 ∷ []) 0 0 0 2 n h)
+    (λ none. empty_closed ca c0 bcc ag p n h)
 
 -- ---- 9
 
 module _ (v : Values) (l : LineState) where
   -- what the test of 9 says, and back
-  shows-clash : (is_open l && clash (physical v) (line_physical l)) ≡ true → StandsInTheWay v l
+  shows_clash : (is_open l && clash (physical v) (line_physical l)) ≡ true → StandsInTheWay v l
   unfolding clash share_one
-  shows-clash h = ⊎_elim here (λ f. not-both share (any_none shared 64 f)) (first_or_none shared 64)
+  shows_clash h = ⊎_elim here (λ f. not_both share (any_none shared 64 f)) (first_or_none shared 64)
     where
       shared : ℕ → Bool
       shared p = contains v.mask p && contains l.mask p
@@ -99,16 +102,16 @@ module _ (v : Values) (l : LineState) where
             in_timeslot = sym (eqb-true _ _ (and_left (eqb v.tn l.tn) _ (and_left met _ clashes)));
             position = w.place;
             below = w.below;
-            one = contains-bit l.mask w.place (and_right (contains v.mask w.place) _ w.passes);
-            shared = contains-bit v.mask w.place (and_left (contains v.mask w.place) _ w.passes);
-            not_apart = λ m s d. not-both (and_both (and_both (eq-eqb _ _ (sym m)) (eq-eqb _ _ (sym s))) (ap not (ne_eqb _ _ (λ q. d (sym q))))) (not-true alone (and_right met _ clashes));
+            one = contains_bit l.mask w.place (and_right (contains v.mask w.place) _ w.passes);
+            shared = contains_bit v.mask w.place (and_left (contains v.mask w.place) _ w.passes);
+            not_apart = λ m s d. not_both (and_both (and_both (eq-eqb _ _ (sym m)) (eq-eqb _ _ (sym s))) (ap not (ne_eqb _ _ (λ q. d (sym q))))) (not-true alone (and_right met _ clashes));
           }
 
-  clash-shows : StandsInTheWay v l → (is_open l && clash (physical v) (line_physical l)) ≡ true
+  clash_shows : StandsInTheWay v l → (is_open l && clash (physical v) (line_physical l)) ≡ true
   unfolding clash share_one
-  clash-shows w =
+  clash_shows w =
       and_both (ap not (ne_eqb l.combination 0 w.is_open))
-      (and_both (and_both (eq-eqb _ _ (sym w.in_timeslot)) (any_at shared 64 w.position w.below (and_both (bit-contains v.mask w.position w.shared) (bit-contains l.mask w.position w.one))))
+      (and_both (and_both (eq-eqb _ _ (sym w.in_timeslot)) (any_at shared 64 w.position w.below (and_both (bit_contains v.mask w.position w.shared) (bit_contains l.mask w.position w.one))))
       (ap not (refute alone apart)))
     where
       shared : ℕ → Bool
@@ -125,8 +128,8 @@ module _ (v : Values) (l : LineState) where
 
 module _ (c : Cell) (n : ℕ) (v : Values) (r : Refused) (nine : r.number ≡ 9) where
   -- the cause with number 9 is the clash
-  of-clash : Caused (open_causes c n v) r → (any_of (clash_cause c v).conditions ≡ true) × ((clash_cause c v).refusal ≡ r)
-  of-clash w =
+  of_clash : Caused (open_causes c n v) r → (any_of (clash_cause c v).conditions ≡ true) × ((clash_cause c v).refusal ≡ r)
+  of_clash w =
       ⊎_elim (λ q. other q (λ z. omega arith)) (λ m. ⊎_elim (λ q. other q (λ z. omega arith)) (λ m. ⊎_elim (λ q. other q (λ z. omega arith)) (λ m. ⊎_elim (λ q. other q (λ z. omega arith)) (λ m. ⊎_elim (λ q. other q (λ z. omega arith))
       (λ m. ⊎_elim this (λ m. absurd (Memᴰ.not-nil m)) (Memᴰ.cases_cons m)) (Memᴰ.cases_cons m)) (Memᴰ.cases_cons m)) (Memᴰ.cases_cons m)) (Memᴰ.cases_cons m)) (Memᴰ.cases_cons w.member)
     where
@@ -141,48 +144,48 @@ module _ (c : Cell) (n : ℕ) (v : Values) (r : Refused) (nine : r.number ≡ 9)
 
   names : (any_of (clash_cause c v).conditions ≡ true) × ((clash_cause c v).refusal ≡ r) → NamesSmallest c v r
   names h =
-      let s = smallest-named c v h.0 in
+      let s = smallest_named c v h.0 in
       record {
         line = s.line.place;
-        is_named = ap (λ (x : Refused). x.values) (sym h.1 ∙ s.is-named);
+        is_named = ap (λ (x : Refused). x.values) (sym h.1 ∙ s.is_named);
         below = s.line.below;
-        in_the_way = shows-clash v (line_at c s.line.place) s.line.passes;
-        smallest = λ k l w. not-both (clash-shows v (line_at c k) w) (s.line.none k l);
+        in_the_way = shows_clash v (line_at c s.line.place) s.line.passes;
+        smallest = λ k l w. not_both (clash_shows v (line_at c k) w) (s.line.none k l);
       }
 
-pub clash-names-smallest : ClashNamesSmallest
+pub clash_names_smallest : ClashNamesSmallest
 unfolding ClashNamesSmallest
-clash-names-smallest c n v r e nine = names c n v r nine (of-clash c n v r nine ((open-fair c n v).caused r e))
+clash_names_smallest c n v r e nine = names c n v r nine (of_clash c n v r nine ((open_fair c n v).caused r e))
 
 -- ---- 10
 
 -- a row that fails the test, where not every row passes it
-fails-somewhere : (test : Row → Bool) (rows : List Row) → every test rows ≡ false → (r : Row) × Memᴰ r rows × (test r ≡ false)
+fails_somewhere : (test : Row → Bool) (rows : List Row) → every test rows ≡ false → (r : Row) × Memᴰ r rows × (test r ≡ false)
 unfolding every
-fails-somewhere test [] e = not-both refl e
-fails-somewhere test (q ∷ qs) e = go (test q) refl (fails-somewhere test qs)
+fails_somewhere test [] e = not_both refl e
+fails_somewhere test (q ∷ qs) e = go (test q) refl (fails_somewhere test qs)
   where
     go : (b : Bool) → test q ≡ b → (every test qs ≡ false → (r : Row) × Memᴰ r qs × (test r ≡ false)) → (r : Row) × Memᴰ r (q ∷ qs) × (test r ≡ false)
-    go true t more = let w = more (and-rest (test q) _ t e) in (w.0, Memᴰ.tail w.1, w.2)
+    go true t more = let w = more (and_rest (test q) _ t e) in (w.0, Memᴰ.tail w.1, w.2)
     go false t more = (q, Memᴰ.head refl, t)
 
-pub subchannels-of-map : SubchannelsOfMap
-subchannels-of-map =
+pub subchannels_of_map : SubchannelsOfMap
+subchannels_of_map =
     record {
-      exists = λ k tn d s ht hd w. subst (λ (t : ℕ). t < subchannels k) w.of_subchannel (row-subchannel tn ht d hd k w.row w.of_map w.not_common);
+      exists = λ k tn d s ht hd w. subst (λ (t : ℕ). t < subchannels k) w.of_subchannel (row_subchannel tn ht d hd k w.row w.of_map w.not_common);
       has_row = has;
     }
   where
     has : (k tn d s : ℕ) → tn < 8 → d < 2 → s < subchannels k → HasRow k tn d s
     has k tn d s ht hd h =
-        let w = fails-somewhere (λ (r : Row). is_common r.kind || not (eqb r.subchannel s)) (rows_of k tn d) (not-true _ (subchannel-row k tn d s ht hd h)) in
-        record { row = w.0; of_map = w.1; not_common = or-none-left (is_common w.0.kind) _ w.2; of_subchannel = eqb-true _ _ (not-false _ (or-none-right (is_common w.0.kind) _ w.2)) }
+        let w = fails_somewhere (λ (r : Row). is_common r.kind || not (eqb r.subchannel s)) (rows_of k tn d) (not-true _ (subchannel_row k tn d s ht hd h)) in
+        record { row = w.0; of_map = w.1; not_common = or_none_left (is_common w.0.kind) _ w.2; of_subchannel = eqb-true _ _ (not-false _ (or_none_right (is_common w.0.kind) _ w.2)) }
 
 -- ---- the list
 
-pub reads-the-list : ReadsTheList
+pub reads_the_list : ReadsTheList
 unfolding opened_with is_seized held_by since last_accepted
-reads-the-list =
+reads_the_list =
     record {
       nothing = λ k t. (refl, (refl, refl));
       refused = λ past x k t. (refl, (refl, refl));
@@ -199,32 +202,40 @@ reads-the-list =
   where
     other : (n s k t : ℕ) → Beside n s k t → (eqb n k && eqb s t) ≡ false
     other n s k t (inl d) = ap (λ (b : Bool). b && eqb s t) (ne_eqb n k (λ q. d (sym q)))
-    other n s k t (inr d) = and-false-right (eqb n k) (ne_eqb s t (λ q. d (sym q)))
+    other n s k t (inr d) = and_false_right (eqb n k) (ne_eqb s t (λ q. d (sym q)))
+
+pub held_has_owner : HeldHasOwner
+unfolding HeldHasOwner
+held_has_owner ca c0 bcc ag p calls (subchannel n s) = (run_keeps first calls (begin first) (begin_keeps first (start_begun ca c0 bcc ag p))).owned n s
+  where
+    first : Cell
+    first = (start_of ca c0 bcc ag p).cell
+held_has_owner ca c0 bcc ag p calls (common_part n) = refl
 
 -- ---- who
 
-pub who-names : WhoNames
-who-names = record { shown = λ c tn arfcn fn. who-shown c tn arfcn fn }
+pub who_names : WhoNames
+who_names = record { shown = λ c tn arfcn fn. who_shown c tn arfcn fn }
 
 -- ---- the lines that paging counts
 
 module _ (first : Cell) (begun : Begun first) (past : List Made) (sound : Sound first past) (placed : Placed first past) where
-  common-there : (j : ℕ) → j < common_lines (cell_from first past) → CommonIn (cell_from first past) (2 * j)
-  common-there j h =
-      let w = common-in first begun past sound placed j h in
-      let q = open-line first past sound w.line w.values w.is_open in
+  common_there : (j : ℕ) → j < common_lines (cell_from first past) → CommonIn (cell_from first past) (2 * j)
+  common_there j h =
+      let w = common_found first begun past sound placed j h in
+      let q = open_line first past sound w.line w.values w.is_open in
       record {
         line = w.line;
-        below = allowed-line first w.line w.values (sound.allowed w.line w.values w.is_open);
+        below = allowed_line first w.line w.values (sound.allowed w.line w.values w.is_open);
         is_common = ap is_common_line q ∙ w.common;
         in_timeslot = ap (λ (l : LineState). l.tn) q ∙ w.in_timeslot;
       }
 
-  counted-in-order : CountedInOrder (cell_from first past)
-  counted-in-order = record { at_most_four = at-most-four first begun past sound placed; in_order = common-there; has_groups = has-groups first begun past sound placed }
+  counted_in_order : CountedInOrder (cell_from first past)
+  counted_in_order = record { at_most_four = at_most_four first begun past sound placed; in_order = common_there; has_groups = has_groups first begun past sound placed }
 
-pub common-lines-in-order : CommonLinesInOrder
+pub common_lines_in_order : CommonLinesInOrder
 unfolding CommonLinesInOrder
-common-lines-in-order c w =
+common_lines_in_order c w =
     let k = known c w in
-    subst CountedInOrder (sym k.as_listed) (counted-in-order k.first k.begun k.past k.sound k.placed)
+    subst CountedInOrder (sym k.as_listed) (counted_in_order k.first k.begun k.past k.sound k.placed)

@@ -8,25 +8,26 @@ use mathlib.Core.Logic.{⊎_elim}
 use mathlib.Core.Option.{some}
 use lib.Dec.{eqb}
 use borrow.Author.Tests.{eqb-true, eqb-false, not-true}
-use Rattle.answers.proofs.Tests.{and_left, and_right, not-both}
+use Rattle.answers.proofs.Tests.{and_left, and_right, not_both}
 use Rattle.hops.specs.Hopping.{line_arfcn}
 use Rattle.hops.specs.Masks.{one_at_or_above}
 use Rattle.hops.proofs.Apart.{Fit, apart}
 use Rattle.maps.specs.Channels.{is_common}
 use Rattle.maps.specs.Combinations.{rows_of}
 use Rattle.maps.specs.Rows.{Row, told}
-use Rattle.maps.proofs.OneChannel.{rows-one-channel}
+use Rattle.maps.proofs.OneChannel.{rows_one_channel}
 use Rattle.rules.specs.State.{Cell, Values, allocation}
 use Rattle.rules.specs.Calls.{Step, physical, start_of}
 use Rattle.rules.specs.History.{Call, Made, opened_with, cell_from}
 use Rattle.rules.specs.Carried.{Channel, subchannel, common_part, line_number, is_of, Spot, Stands}
 use Rattle.rules.specs.CollisionFree.{CollisionFree, Run, calling, made, next, run, begin, ThirdDemand}
-use Rattle.rules.proofs.Sound.{allowed-within, allowed-maio, allowed-tn, Sound, sound-first, Kept, call_kept}
-use Rattle.rules.proofs.Places.{Placed, placed_first, call-placed}
-use Rattle.rules.proofs.Owners.{Owners, owners-first, call-owners}
-use Rattle.rules.proofs.LineAnswer.{line-is}
-use Rattle.rules.proofs.Shown.{stands-shown, shown-stands}
-use Rattle.rules.proofs.Begun.{Begun, start-begun}
+use Rattle.rules.proofs.Sound.{allowed_within, allowed_maio, allowed_tn, Sound, sound_first, Kept, call_kept}
+use Rattle.rules.proofs.Places.{Placed, placed_first, call_placed}
+use Rattle.rules.proofs.Trained.{Trained, trained_first, call_trained}
+use Rattle.rules.proofs.Owners.{Owned, owned_first, call_owned, Owners, owners_first, call_owners}
+use Rattle.rules.proofs.LineAnswer.{line_is}
+use Rattle.rules.proofs.Shown.{stands_shown, shown_stands}
+use Rattle.rules.proofs.Begun.{Begun, start_begun}
 
 -- ---- two open lines of one timeslot have different ARFCNs in every frame
 
@@ -35,50 +36,50 @@ module _ (first : Cell) (begun : Begun first) (past : List Made) (sound : Sound 
   fit n v e =
       let a = sound.allowed n v e in
       record {
-        within = subst (λ (k : ℕ). one_at_or_above v.mask k ≡ false) (sym begun.known-length) (allowed-within first n v a);
-        maio-below = allowed-maio first n v a;
+        within = subst (λ (k : ℕ). one_at_or_above v.mask k ≡ false) (sym begun.known_length) (allowed_within first n v a);
+        maio_below = allowed_maio first n v a;
       }
 
-  pub lines-apart : (n m : ℕ) (v w : Values) → (n ≡ m → ⊥) → opened_with past n ≡ some v → opened_with past m ≡ some w → v.tn ≡ w.tn
+  pub lines_apart : (n m : ℕ) (v w : Values) → (n ≡ m → ⊥) → opened_with past n ≡ some v → opened_with past m ≡ some w → v.tn ≡ w.tn
       → (fn : ℕ) → line_arfcn (allocation first) v.mask v.hsn v.maio fn ≡ line_arfcn (allocation first) w.mask w.hsn w.maio fn → ⊥
-  lines-apart n m v w d ev ew t fn e =
-      ⊎_elim (λ c. apart (allocation first) (physical v) (physical w) begun.is-allocation (fit n v ev) (fit m w ew) t c fn e)
-      (λ c. apart (allocation first) (physical w) (physical v) begun.is-allocation (fit m w ew) (fit n v ev) (sym t) c fn (sym e))
+  lines_apart n m v w d ev ew t fn e =
+      ⊎_elim (λ c. apart (allocation first) (physical v) (physical w) begun.allocated (fit n v ev) (fit m w ew) t c fn e)
+      (λ c. apart (allocation first) (physical w) (physical v) begun.allocated (fit m w ew) (fit n v ev) (sym t) c fn (sym e))
       (sound.clear n m v w d ev ew)
 
 -- ---- two channels in one spot are one
 
 module _ (first : Cell) (begun : Begun first) (past : List Made) (sound : Sound first past) (spot : Spot) (hd : spot.direction < 2) where
   -- of one line, they are of one subchannel or of the common part
-  of-line : (n : ℕ) (x y : Channel) (r q : Row) → line_number x ≡ n → line_number y ≡ n → (r.kind ≡ q.kind) × (r.subchannel ≡ q.subchannel)
+  of_line : (n : ℕ) (x y : Channel) (r q : Row) → line_number x ≡ n → line_number y ≡ n → (r.kind ≡ q.kind) × (r.subchannel ≡ q.subchannel)
       → is_of x (told r) ≡ true → is_of y (told q) ≡ true → x ≡ y
-  of-line n (subchannel i s) (subchannel j t) r q a b e hx hy =
+  of_line n (subchannel i s) (subchannel j t) r q a b e hx hy =
       let u : r.subchannel ≡ s = eqb-true _ _ (and_right (not (is_common r.kind)) _ hx) in
       let w : q.subchannel ≡ t = eqb-true _ _ (and_right (not (is_common q.kind)) _ hy) in
       same (a ∙ sym b) (sym u ∙ (e.1 ∙ w))
     where
       same : i ≡ j → s ≡ t → subchannel i s ≡ subchannel j t
       same p o = cc
-  of-line n (subchannel i s) (common_part j) r q a b e hx hy =
-      not-both {b = is_common q.kind} hy (ap is_common (sym e.0) ∙ not-true _ (and_left (not (is_common r.kind)) _ hx))
-  of-line n (common_part i) (subchannel j t) r q a b e hx hy =
-      not-both {b = is_common r.kind} hx (ap is_common e.0 ∙ not-true _ (and_left (not (is_common q.kind)) _ hy))
-  of-line n (common_part i) (common_part j) r q a b e hx hy = ap common_part (a ∙ sym b)
+  of_line n (subchannel i s) (common_part j) r q a b e hx hy =
+      not_both {b = is_common q.kind} hy (ap is_common (sym e.0) ∙ not-true _ (and_left (not (is_common r.kind)) _ hx))
+  of_line n (common_part i) (subchannel j t) r q a b e hx hy =
+      not_both {b = is_common r.kind} hx (ap is_common e.0 ∙ not-true _ (and_left (not (is_common q.kind)) _ hy))
+  of_line n (common_part i) (common_part j) r q a b e hx hy = ap common_part (a ∙ sym b)
 
   -- of two lines: their timeslots or ARFCNs differ
-  of-lines : (x y : Channel) → (line_number x ≡ line_number y → ⊥) → Stands first past x spot → Stands first past y spot → ⊥
-  of-lines x y d a b =
-      lines-apart first begun past sound (line_number x) (line_number y) a.values b.values d a.is_open b.is_open
+  of_lines : (x y : Channel) → (line_number x ≡ line_number y → ⊥) → Stands first past x spot → Stands first past y spot → ⊥
+  of_lines x y d a b =
+      lines_apart first begun past sound (line_number x) (line_number y) a.values b.values d a.is_open b.is_open
       (a.in_timeslot ∙ sym b.in_timeslot) spot.fn (a.on_arfcn ∙ sym b.on_arfcn)
 
   one_spot : (x y : Channel) → Stands first past x spot → Stands first past y spot → x ≡ y
   one_spot x y a b = go (eqb (line_number x) (line_number y)) refl
     where
       go : (t : Bool) → eqb (line_number x) (line_number y) ≡ t → x ≡ y
-      go false q = absurd (of-lines x y (eqb-false _ _ q) a b)
+      go false q = absurd (of_lines x y (eqb-false _ _ q) a b)
       go true q =
-          of-line (line_number y) x y a.row b.row e refl
-          (rows-one-channel v.tn (allowed-tn first (line_number x) v (sound.allowed (line_number x) v a.is_open)) spot.direction hd spot.fn v.combination a.row b.row a.of_map of_map a.in_frame b.in_frame)
+          of_line (line_number y) x y a.row b.row e refl
+          (rows_one_channel v.tn (allowed_tn first (line_number x) v (sound.allowed (line_number x) v a.is_open)) spot.direction hd spot.fn v.combination a.row b.row a.of_map of_map a.in_frame b.in_frame)
           a.of_channel b.of_channel
         where
           v : Values
@@ -95,28 +96,31 @@ module _ (first : Cell) (begun : Begun first) (past : List Made) (sound : Sound 
 
 -- ---- from a sound history to the claim
 
-free_of : (first : Cell) → Begun first → (past : List Made) → Sound first past → CollisionFree first past (cell_from first past)
-free_of first begun past sound =
+free_of : (first : Cell) → Begun first → (past : List Made) → Sound first past → Owned past → CollisionFree first past (cell_from first past)
+free_of first begun past sound owned =
     record {
       as_listed = refl;
       apart = λ x y spot hd a b. one_spot first begun past sound spot hd x y a b;
-      line = λ n v fn d e hf hd. line-is first past sound n v e fn hf d hd;
-      shown = λ x spot hf hd a. stands-shown first past sound x spot hf hd a;
-      stands = λ x spot hf hd a. shown-stands first past sound x spot hf hd a;
+      line = λ n v fn d e hf hd. line_is first past sound n v e fn hf d hd;
+      shown = λ x spot hf hd a. stands_shown first past sound owned x spot hf hd a;
+      stands = λ x spot hf hd a. shown_stands first past sound owned x spot hf hd a;
     }
 
--- what every run has. That the common lines are in their places is for paging (PageAndLine.antt), that and the owners for WellFormed.antt
+-- what every run has. That the common lines are in their places is for paging (PageAndLine.antt); that, their training codes and the owners are
+-- for WellFormed.antt
 pub record Invariant (first : Cell) (r : Run) : Type 0 where
   pub as_listed : r.cell ≡ cell_from first r.past
   pub sound : Sound first r.past
   pub placed : Placed first r.past
+  pub owned : Owned r.past
+  pub trained : Trained first r.past
   pub owners : Owners r.past
 
-pub collision-free-of : (first : Cell) → Begun first → (r : Run) → Invariant first r → CollisionFree first r.past r.cell
-collision-free-of first begun r h = subst (λ (c : Cell). CollisionFree first r.past c) (sym h.as_listed) (free_of first begun r.past h.sound)
+pub collision_free_of : (first : Cell) → Begun first → (r : Run) → Invariant first r → CollisionFree first r.past r.cell
+collision_free_of first begun r h = subst (λ (c : Cell). CollisionFree first r.past c) (sym h.as_listed) (free_of first begun r.past h.sound h.owned)
 
-pub begin-keeps : (first : Cell) → Begun first → Invariant first (begin first)
-begin-keeps first begun = record { as_listed = begun.nothing-open; sound = sound-first first; placed = placed_first first; owners = owners-first }
+pub begin_keeps : (first : Cell) → Begun first → Invariant first (begin first)
+begin_keeps first begun = record { as_listed = begun.nothing_open; sound = sound_first first; placed = placed_first first; owned = owned_first; trained = trained_first first; owners = owners_first }
 
 -- a call whose outcome is the definition's keeps it
 pub step_keeps : (first : Cell) (r : Run) → Invariant first r → (x : Call) (s : Step) → s ≡ calling r.cell x → Invariant first (record { cell = s.cell; past = made x s ∷ r.past })
@@ -126,21 +130,23 @@ step_keeps first r h x s e =
     record {
       as_listed = k.0;
       sound = k.1;
-      placed = subst (λ (t : Step). Placed first (made x t ∷ r.past)) same (call-placed first r.past h.sound h.placed x);
-      owners = subst (λ (t : Step). Owners (made x t ∷ r.past)) same (call-owners first r.past h.sound h.owners x);
+      placed = subst (λ (t : Step). Placed first (made x t ∷ r.past)) same (call_placed first r.past h.sound h.placed x);
+      owned = subst (λ (t : Step). Owned (made x t ∷ r.past)) same (call_owned first r.past h.owned x);
+      trained = subst (λ (t : Step). Trained first (made x t ∷ r.past)) same (call_trained first r.past h.trained x);
+      owners = subst (λ (t : Step). Owners (made x t ∷ r.past)) same (call_owners first r.past h.sound h.owners x);
     }
 
-pub run-keeps : (first : Cell) (calls : List Call) (r : Run) → Invariant first r → Invariant first (run r calls)
+pub run_keeps : (first : Cell) (calls : List Call) (r : Run) → Invariant first r → Invariant first (run r calls)
 unfolding run
-run-keeps first [] r h = h
-run-keeps first (x ∷ xs) r h = run-keeps first xs (next r x) (step_keeps first r h x (calling r.cell x) refl)
+run_keeps first [] r h = h
+run_keeps first (x ∷ xs) r h = run_keeps first xs (next r x) (step_keeps first r h x (calling r.cell x) refl)
 
 -- the third demand
-pub third-demand : ThirdDemand
+pub third_demand : ThirdDemand
 unfolding ThirdDemand
-third-demand ca c0 bcc ag p calls =
-    let begun = start-begun ca c0 bcc ag p in
-    collision-free-of first begun (run (begin first) calls) (run-keeps first calls (begin first) (begin-keeps first begun))
+third_demand ca c0 bcc ag p calls =
+    let begun = start_begun ca c0 bcc ag p in
+    collision_free_of first begun (run (begin first) calls) (run_keeps first calls (begin first) (begin_keeps first begun))
   where
     first : Cell
     first = (start_of ca c0 bcc ag p).cell

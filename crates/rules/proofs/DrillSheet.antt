@@ -27,18 +27,18 @@ use Rattle.rules.specs.DrillSheet.{imsi, traffic, DrillSheet}
 
 -- a question in range is answered by what stands there
 module _ (n tn fn d : ℕ) (t : tn ≤ 7) (f : fn ≤ 2715647) (e : d ≤ 1) where
-  in-range : is_combination n ≡ true → map_of n tn fn d ≡ accepted (standing (rows_of n tn d) fn)
+  in_range : is_combination n ≡ true → map_of n tn fn d ≡ accepted (standing (rows_of n tn d) fn)
   unfolding map_of
-  in-range c = passes _ _ _ (ap not c, (le-ltb _ _ t, (le-ltb _ _ f, (le-ltb _ _ e, tt)))) ∙ accepts _
+  in_range c = passes _ _ _ (ap not c, (le-ltb _ _ t, (le-ltb _ _ f, (le-ltb _ _ e, tt)))) ∙ accepts _
 
 -- what paging takes from the cell. The search for the frame isn't computed here: `drill` has it
-one-common-line : common_of traffic ≡ one_line
+one_common_line : common_of traffic ≡ one_line
 unfolding run share_one clash tabulate closed_line empty start_of open_of seize_of decide any_of all_below any_below count_below ones_below one_at_or_above is_allocation combinations among
-one-common-line = refl
+one_common_line = refl
 
-pub drill-sheet : DrillSheet
+pub drill_sheet : DrillSheet
 unfolding who_of match_of page_of line_of slot_of owner_of map_of refusals run share_one clash tabulate closed_line empty start_of open_of seize_of uncombined additional decide any_of all_below any_below least ones_below position_at one_at_or_above is_allocation rntable nbin S mai_of position_of hop_of numbered each from standing full_rate half_rate combined sdcch8 combinations among rows_among
-drill-sheet =
+drill_sheet =
     record {
       last_frame = refl;
       frame_51 = refl;
@@ -48,13 +48,13 @@ drill-sheet =
       mask_7_fn_4 = refl;
       mask_7_maio_1 = refl;
       mask_15 = refl;
-      full_rate_sacch = λ d h. in-range 1 1 25 d (lit≤ tt) (lit≤ tt) h refl;
-      full_rate_idle = λ d h. in-range 1 1 12 d (lit≤ tt) (lit≤ tt) h refl;
-      half_rate_sacch = λ d h. in-range 2 1 12 d (lit≤ tt) (lit≤ tt) h refl;
-      sdcch8_sacch = λ tn h. in-range 7 tn 102 1 h (lit≤ tt) (lit≤ tt) refl;
-      combined_fn_13 = λ tn h. in-range 5 tn 13 1 h (lit≤ tt) (lit≤ tt) refl;
-      combined_fn_14 = λ tn h. in-range 5 tn 14 1 h (lit≤ tt) (lit≤ tt) refl;
-      combined_fn_64 = λ tn h. in-range 5 tn 64 1 h (lit≤ tt) (lit≤ tt) refl;
+      full_rate_sacch = λ d h. in_range 1 1 25 d (lit≤ tt) (lit≤ tt) h refl;
+      full_rate_idle = λ d h. in_range 1 1 12 d (lit≤ tt) (lit≤ tt) h refl;
+      half_rate_sacch = λ d h. in_range 2 1 12 d (lit≤ tt) (lit≤ tt) h refl;
+      sdcch8_sacch = λ tn h. in_range 7 tn 102 1 h (lit≤ tt) (lit≤ tt) refl;
+      combined_fn_13 = λ tn h. in_range 5 tn 13 1 h (lit≤ tt) (lit≤ tt) refl;
+      combined_fn_14 = λ tn h. in_range 5 tn 14 1 h (lit≤ tt) (lit≤ tt) refl;
+      combined_fn_64 = λ tn h. in_range 5 tn 64 1 h (lit≤ tt) (lit≤ tt) refl;
       paged = drill.0;
       accepted_start = refl;
       accepted_calls = refl;
@@ -72,7 +72,7 @@ drill-sheet =
       line_combined_fn_13 = refl;
       line_combined_fn_14 = refl;
       line_combined_fn_64 = refl;
-      page_asked = ap (λ c. paging_of c imsi 0) one-common-line ∙ drill.0;
+      page_asked = ap (λ c. paging_of c imsi 0) one_common_line ∙ drill.0;
       line_paged = refl;
       who_cyclic = refl;
       who_nobody = refl;

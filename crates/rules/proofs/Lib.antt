@@ -4,6 +4,7 @@ pub mod History
 pub mod AsListed
 pub mod Sound
 pub mod Places
+pub mod Trained
 pub mod Owners
 pub mod SubchannelRows
 pub mod LineAnswer

@@ -8,55 +8,55 @@ use native.Mathlib.Omega.{arith}
 use lib.Seq.{get_or-take}
 use borrow.Author.Tests.{le-ltb, lt-leb}
 use Rattle.answers.specs.Outcome.{accepted, any_of}
-use Rattle.answers.proofs.Decide.{passes, accepts, none-holds}
-use Rattle.answers.proofs.Tests.{lt-not-ltb}
+use Rattle.answers.proofs.Decide.{passes, accepts, none_holds}
+use Rattle.answers.proofs.Tests.{lt_not_ltb}
 use Rattle.clock.specs.Clock.{hyperframe}
 use Rattle.hops.specs.Hopping.{position_of, line_position, line_arfcn}
-use Rattle.hops.proofs.Apart.{line-within}
+use Rattle.hops.proofs.Apart.{line_within}
 use Rattle.maps.specs.Channels.{Standing, is_common}
 use Rattle.maps.specs.Combinations.{rows_of}
 use Rattle.maps.specs.Map.{out_of_range, map_of}
 use Rattle.maps.specs.Rows.{standing}
-use Rattle.maps.proofs.Range.{accepted-map}
-use Rattle.maps.proofs.Stood.{Stood, standing-stood}
+use Rattle.maps.proofs.Range.{accepted_map}
+use Rattle.maps.proofs.Stood.{Stood, standing_stood}
 use Rattle.rules.specs.State.{Cell, LineState, Values, owner_room, line_with, is_open, line_at, owner_at, allocation}
 use Rattle.rules.specs.OnAir.{entry_at, in_frame, owner_of, slot_of, line_of}
 use Rattle.rules.specs.History.{Made, opened_with, held_by, cell_from}
 use Rattle.rules.specs.CollisionFree.{slot_from}
-use Rattle.rules.proofs.Tabulate.{tabulate-at}
-use Rattle.rules.proofs.SubchannelRows.{row-subchannel}
-use Rattle.rules.proofs.Lines.{has_room, same-slot}
-use Rattle.rules.proofs.Sound.{Allowed, allowed-within, allowed-maio, allowed-line, allowed-combination, allowed-tn, allowed-hsn, allowed-open, Sound, open-line}
+use Rattle.rules.proofs.Tabulate.{tabulate_at}
+use Rattle.rules.proofs.SubchannelRows.{row_subchannel}
+use Rattle.rules.proofs.Lines.{has_room, same_slot}
+use Rattle.rules.proofs.Sound.{Allowed, allowed_within, allowed_maio, allowed_line, allowed_combination, allowed_tn, allowed_hsn, allowed_open, Sound, open_line}
 
 module _ (first : Cell) (n : ℕ) (v : Values) (a : Allowed first n v) (fn : ℕ) (hf : fn < hyperframe) where
   position : position_of first.length v.mask v.hsn v.maio fn ≡ accepted (line_position v.mask v.hsn v.maio fn)
   unfolding position_of
   position =
-      passes _ _ _ (lt-not-ltb v.hsn 64 (allowed-hsn first n v a), (lt-not-ltb fn hyperframe hf, tt)) ∙ (passes _ _ _ a.mask ∙ (passes _ _ _ a.maio ∙ accepts _))
+      passes _ _ _ (lt_not_ltb v.hsn 64 (allowed_hsn first n v a), (lt_not_ltb fn hyperframe hf, tt)) ∙ (passes _ _ _ a.mask ∙ (passes _ _ _ a.maio ∙ accepts _))
 
   -- the ARFCN is the one that the hopping rules give
-  pub arfcn-is : entry_at first.ca (position_of first.length v.mask v.hsn v.maio fn) ≡ line_arfcn (allocation first) v.mask v.hsn v.maio fn
-  arfcn-is =
+  pub arfcn_is : entry_at first.ca (position_of first.length v.mask v.hsn v.maio fn) ≡ line_arfcn (allocation first) v.mask v.hsn v.maio fn
+  arfcn_is =
       ap (entry_at first.ca) position
-      ∙ sym (get_or-take first.length first.ca (line_position v.mask v.hsn v.maio fn) 0 (line-within v.mask v.hsn v.maio fn (allowed-maio first n v a) first.length (allowed-within first n v a)))
+      ∙ sym (get_or-take first.length first.ca (line_position v.mask v.hsn v.maio fn) 0 (line_within v.mask v.hsn v.maio fn (allowed_maio first n v a) first.length (allowed_within first n v a)))
 
   module _ (d : ℕ) (hd : d < 2) where
     there : List Standing
     there = standing (rows_of v.combination v.tn d) fn
 
-    in-range : any_of (out_of_range v.combination v.tn fn d) ≡ false
-    in-range =
-        none-holds (out_of_range v.combination v.tn fn d)
-        (allowed-combination first n v a, (le-ltb 7 v.tn (let t = allowed-tn first n v a in omega (arith, t)), (le-ltb 2715647 fn (omega arith), (le-ltb 1 d (omega arith), tt))))
+    in_range : any_of (out_of_range v.combination v.tn fn d) ≡ false
+    in_range =
+        none_holds (out_of_range v.combination v.tn fn d)
+        (allowed_combination first n v a, (le-ltb 7 v.tn (let t = allowed_tn first n v a in omega (arith, t)), (le-ltb 2715647 fn (omega arith), (le-ltb 1 d (omega arith), tt))))
 
     map_is : in_frame (map_of v.combination v.tn fn d) ≡ there
     unfolding there
-    map_is = ap in_frame (accepted-map v.combination v.tn fn d in-range)
+    map_is = ap in_frame (accepted_map v.combination v.tn fn d in_range)
 
     -- the owner of what stands there: its subchannel is one of those that a line has room for
-    owner-is : (held : ℕ → ℕ) → owner_of (owner_at (line_with v held)) there ≡ owner_of held there
+    owner_is : (held : ℕ → ℕ) → owner_of (owner_at (line_with v held)) there ≡ owner_of held there
     unfolding owner_of there
-    owner-is held = go (standing (rows_of v.combination v.tn d) fn) (λ x m. standing-stood (rows_of v.combination v.tn d) fn x m)
+    owner_is held = go (standing (rows_of v.combination v.tn d) fn) (λ x m. standing_stood (rows_of v.combination v.tn d) fn x m)
       where
         go : (xs : List Standing) → ((x : Standing) → Memᴰ x xs → Stood (rows_of v.combination v.tn d) fn x) → owner_of (owner_at (line_with v held)) xs ≡ owner_of held xs
         go [] f = refl
@@ -64,29 +64,29 @@ module _ (first : Cell) (n : ℕ) (v : Values) (a : Allowed first n v) (fn : ℕ
           where
             kind : (b : Bool) → is_common x.kind ≡ b → cond b 0 (owner_at (line_with v held) x.subchannel) ≡ cond b 0 (held x.subchannel)
             kind true e = refl
-            kind false e = tabulate-at owner_room held 0 x.subchannel (below (f x (Memᴰ.head refl)))
+            kind false e = tabulate_at owner_room held 0 x.subchannel (below (f x (Memᴰ.head refl)))
               where
                 below : Stood (rows_of v.combination v.tn d) fn x → x.subchannel < owner_room
-                below w = subst (λ (y : Standing). y.subchannel < owner_room) w.tells (let l = row-subchannel v.tn (allowed-tn first n v a) d hd v.combination w.by w.member (ap (λ (y : Standing). is_common y.kind) w.tells ∙ e) in let m = has_room v.combination in omega (arith, l, m))
+                below w = subst (λ (y : Standing). y.subchannel < owner_room) w.tells (let l = row_subchannel v.tn (allowed_tn first n v a) d hd v.combination w.by w.member (ap (λ (y : Standing). is_common y.kind) w.tells ∙ e) in let m = has_room v.combination in omega (arith, l, m))
 
 module _ (first : Cell) (past : List Made) (sound : Sound first past) (n : ℕ) (v : Values) (e : opened_with past n ≡ some v) (fn : ℕ) (hf : fn < hyperframe) (d : ℕ) (hd : d < 2) where
   slot_is : slot_of (cell_from first past) (line_with v (held_by past n)) fn d ≡ slot_from first past n v fn d
   unfolding slot_of cell_from there
   slot_is =
       let a = sound.allowed n v e in
-      same-slot (arfcn-is first n v a fn hf) (map_is first n v a fn hf d hd)
-      (ap (owner_of (owner_at (line_with v (held_by past n)))) (map_is first n v a fn hf d hd) ∙ owner-is first n v a fn hf d hd (held_by past n))
+      same_slot (arfcn_is first n v a fn hf) (map_is first n v a fn hf d hd)
+      (ap (owner_of (owner_at (line_with v (held_by past n)))) (map_is first n v a fn hf d hd) ∙ owner_is first n v a fn hf d hd (held_by past n))
 
   -- `line` of an open line
-  pub line-is : line_of (cell_from first past) n fn d ≡ accepted (slot_from first past n v fn d)
+  pub line_is : line_of (cell_from first past) n fn d ≡ accepted (slot_from first past n v fn d)
   unfolding line_of
-  line-is =
-      passes _ _ _ (le-ltb 63 n (let l = allowed-line first n v a in omega (arith, l)), (lt-leb hyperframe fn hf, (le-ltb 1 d (omega arith), tt)))
+  line_is =
+      passes _ _ _ (le-ltb 63 n (let l = allowed_line first n v a in omega (arith, l)), (lt-leb hyperframe fn hf, (le-ltb 1 d (omega arith), tt)))
       ∙ (passes _ _ _ (ap not opened, tt)
-      ∙ (accepts _ ∙ ap accepted (ap (λ (l : LineState). slot_of (cell_from first past) l fn d) (open-line first past sound n v e) ∙ slot_is)))
+      ∙ (accepts _ ∙ ap accepted (ap (λ (l : LineState). slot_of (cell_from first past) l fn d) (open_line first past sound n v e) ∙ slot_is)))
     where
       a : Allowed first n v
       a = sound.allowed n v e
 
       opened : is_open (line_at (cell_from first past) n) ≡ true
-      opened = subst (λ (l : LineState). is_open l ≡ true) (sym (open-line first past sound n v e)) (allowed-open first n v a (held_by past n))
+      opened = subst (λ (l : LineState). is_open l ≡ true) (sym (open_line first past sound n v e)) (allowed_open first n v a (held_by past n))

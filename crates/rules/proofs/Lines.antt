@@ -10,11 +10,11 @@ use Rattle.rules.specs.Calls.{subchannels}
 use Rattle.rules.specs.OnAir.{Slot}
 
 -- a line of combination 0 is closed, any other is open: `is_open` of the combination
-pub closed-line : {combination : ℕ} → combination ≡ 0 → not (eqb combination 0) ≡ false
-closed-line e = ap not (eq-eqb _ _ e)
+pub closed_by_combination : {combination : ℕ} → combination ≡ 0 → not (eqb combination 0) ≡ false
+closed_by_combination e = ap not (eq-eqb _ _ e)
 
-pub open-line : {combination : ℕ} → (combination ≡ 0 → ⊥) → not (eqb combination 0) ≡ true
-open-line e = ap not (ne_eqb _ _ e)
+pub open_line : {combination : ℕ} → (combination ≡ 0 → ⊥) → not (eqb combination 0) ≡ true
+open_line e = ap not (ne_eqb _ _ e)
 
 -- no combination has more subchannels than a line has room for
 pub has_room : (combination : ℕ) → subchannels combination ≤ 8
@@ -28,9 +28,9 @@ has_room k = go (eqb k 1) (eqb k 2) (eqb k 5) (eqb k 7)
     go false false false false = lit≤ {m = 0} {n = 8} tt
 
 -- a slot by its parts
-pub same-slot : {a b o p : ℕ} {xs ys : List Standing} → a ≡ b → xs ≡ ys → o ≡ p
+pub same_slot : {a b o p : ℕ} {xs ys : List Standing} → a ≡ b → xs ≡ ys → o ≡ p
     → ◌≡◌ {A = Slot} (record { arfcn = a; standing = xs; owner = o }) (record { arfcn = b; standing = ys; owner = p })
-same-slot e f g = cc
+same_slot e f g = cc
 
 -- tests one after the other: the first fails, or the next decides
 pub fails : (a y : Bool) → a ≡ false → false ≡ (a && y)

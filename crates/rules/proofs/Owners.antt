@@ -1,11 +1,11 @@
--- Whose the subchannels are, whatever the list: no owner is above 65,535, and only what the line's combination has is held. Kept by each call.
--- Assumes nothing.
+-- Whose the subchannels are, whatever the list: what is held has an owner, no owner is above 65,535, and only what the line's combination has is
+-- held. Kept by each call. Assumes nothing.
 use Prim.Native.Nat.{ℕ, ◌≤◌, ◌<◌}
 use mathlib.Core.Path.{◌≡◌, refl, sym, ap, ◌∙◌}
-use mathlib.Core.Bool.{Bool, true, false, ◌&&◌}
+use mathlib.Core.Bool.{Bool, true, false, not, cond, ◌&&◌}
 use mathlib.Core.List.{List, [], ◌∷◌}
 use mathlib.Core.Logic.{◌⊎◌, inl, inr, ⊎_elim}
-use mathlib.Core.Option.{some}
+use mathlib.Core.Option.{Option, some}
 use native.Mathlib.Omega.{arith}
 use lib.Dec.{eqb, ltb}
 use borrow.Author.Tests.{eqb-true, eqb-false, ltb-true, ltb-false, not-false}
@@ -13,10 +13,82 @@ use Rattle.answers.specs.Outcome.{Outcome}
 use Rattle.answers.proofs.Decide.{decided}
 use Rattle.rules.specs.State.{Cell, LineState, Values, line_at}
 use Rattle.rules.specs.Calls.{step, subchannels, no_subchannel, open_causes, open_of, close_causes, close_of, seize_causes, seize_of, release_causes, release_of}
-use Rattle.rules.specs.History.{Call, opens, closes, seizes, releases, Made, opens_or_closes, opened_with, last_accepted, since, seizes_or_releases, owner_in, held_by, cell_from}
+use Rattle.rules.specs.History.{Call, opens, closes, seizes, releases, Made, opens_or_closes, opened_with, last_accepted, since, seizes_or_releases, owner_in, held_by, is_seize, is_seized, cell_from}
 use Rattle.rules.specs.CollisionFree.{calling, made}
-use Rattle.rules.proofs.History.{was_accepted, was_refused, named-held, other-opened, other-held, owner-named, owner-beside, owner-elsewhere, still-opened}
-use Rattle.rules.proofs.Sound.{Sound, open-line, or-none-right}
+use Rattle.rules.proofs.History.{was_accepted, was_refused, named_held, other_opened, other_held, owner_named, owner_beside, owner_elsewhere, still_opened}
+use Rattle.rules.proofs.Sound.{Sound, open_line, or_none_left, or_none_right}
+
+-- a subchannel is held exactly if it has an owner
+abbrev pub Owned : List Made → Type 0
+Owned past = (n s : ℕ) → is_seized past n s ≡ not (eqb (held_by past n s) 0)
+
+-- nothing is held before the first call
+pub owned_first : Owned []
+unfolding is_seized held_by since last_accepted
+owned_first n s = refl
+
+module _ (first : Cell) (past : List Made) (owned : Owned past) where
+  abbrev start : Cell
+  start = cell_from first past
+
+  owned_refused : (x : Call) → Owned (was_refused x ∷ past)
+  unfolding is_seized held_by since last_accepted
+  owned_refused x = owned
+
+  -- an open or close of line n frees its subchannels
+  owned_named : (x : Call) (n : ℕ) → ((k : ℕ) → opens_or_closes k x ≡ eqb n k) → ((k s : ℕ) → seizes_or_releases k s x ≡ false) → Owned (was_accepted x ∷ past)
+  unfolding is_seized held_by since last_accepted
+  owned_named x n names neither k s = rw (names k) (go (eqb n k))
+    where
+      Last : Bool → Option Call
+      Last b = last_accepted (seizes_or_releases k s) (cond b [] (was_accepted x ∷ since k past))
+
+      go : (b : Bool) → is_seize (Last b) ≡ not (eqb (owner_in (Last b)) 0)
+      go true = refl
+      go false = rw (neither k s) (owned k s)
+
+  -- a seize or release of s names an owner, or frees it
+  owned_by : (x : Call) (n s : ℕ) → ((k t : ℕ) → seizes_or_releases k t x ≡ (eqb n k && eqb s t)) → ((k : ℕ) → opens_or_closes k x ≡ false)
+      → is_seize (some x) ≡ not (eqb (owner_in (some x)) 0) → Owned (was_accepted x ∷ past)
+  unfolding is_seized held_by since last_accepted
+  owned_by x n s names neither good k t = rw (neither k, names k t) (go (eqb n k && eqb s t))
+    where
+      Last : Bool → Option Call
+      Last b = cond b (some x) (last_accepted (seizes_or_releases k t) (since k past))
+
+      go : (b : Bool) → is_seize (Last b) ≡ not (eqb (owner_in (Last b)) 0)
+      go true = good
+      go false = owned k t
+
+  open_owned : (n : ℕ) (v : Values) → Owned (made (opens n v) (open_of start n v) ∷ past)
+  unfolding open_of
+  open_owned n v =
+      decided (open_causes start n v) _ (λ (o : Outcome Cell). Owned (made (opens n v) (step start o) ∷ past)) (λ r. owned_refused (opens n v))
+      (λ none. owned_named (opens n v) n (λ k. refl) (λ k s. refl))
+
+  close_owned : (n : ℕ) → Owned (made (closes n) (close_of start n) ∷ past)
+  unfolding close_of
+  close_owned n =
+      decided (close_causes start n) _ (λ (o : Outcome Cell). Owned (made (closes n) (step start o) ∷ past)) (λ r. owned_refused (closes n))
+      (λ none. owned_named (closes n) n (λ k. refl) (λ k s. refl))
+
+  seize_owned : (n s o : ℕ) → Owned (made (seizes n s o) (seize_of start n s o) ∷ past)
+  unfolding seize_of
+  seize_owned n s o =
+      decided (seize_causes start n s o) _ (λ (x : Outcome Cell). Owned (made (seizes n s o) (step start x) ∷ past)) (λ r. owned_refused (seizes n s o))
+      (λ none. owned_by (seizes n s o) n s (λ k t. refl) (λ k. refl) (ap not (sym (or_none_left (eqb o 0) (ltb 65535 o) none.0.1.0))))
+
+  release_owned : (n s o : ℕ) → Owned (made (releases n s o) (release_of start n s o) ∷ past)
+  unfolding release_of
+  release_owned n s o =
+      decided (release_causes start n s o) _ (λ (x : Outcome Cell). Owned (made (releases n s o) (step start x) ∷ past)) (λ r. owned_refused (releases n s o))
+      (λ none. owned_by (releases n s o) n s (λ k t. refl) (λ k. refl) refl)
+
+  pub call_owned : (x : Call) → Owned (made x (calling start x) ∷ past)
+  call_owned (opens n v) = open_owned n v
+  call_owned (closes n) = close_owned n
+  call_owned (seizes n s o) = seize_owned n s o
+  call_owned (releases n s o) = release_owned n s o
 
 pub record Owners (past : List Made) : Type 0 where
   pub range : (n s : ℕ) → held_by past n s ≤ 65535
@@ -24,35 +96,35 @@ pub record Owners (past : List Made) : Type 0 where
   pub beyond : (n s : ℕ) (v : Values) → opened_with past n ≡ some v → subchannels v.combination ≤ s → held_by past n s ≡ 0
 
 -- nothing is held before the first call
-pub owners-first : Owners []
+pub owners_first : Owners []
 unfolding held_by since last_accepted
-owners-first = record { range = λ n s. omega arith; beyond = λ n s v e h. refl }
+owners_first = record { range = λ n s. omega arith; beyond = λ n s v e h. refl }
 
 module _ (first : Cell) (past : List Made) (sound : Sound first past) (owners : Owners past) where
   abbrev before : Cell
   before = cell_from first past
 
-  owners-refused : (x : Call) → Owners (was_refused x ∷ past)
+  owners_refused : (x : Call) → Owners (was_refused x ∷ past)
   unfolding opened_with held_by since last_accepted
-  owners-refused x = record { range = owners.range; beyond = owners.beyond }
+  owners_refused x = record { range = owners.range; beyond = owners.beyond }
 
   -- an open or close of line n frees its subchannels
   module _ (x : Call) (n : ℕ) (names : (k : ℕ) → opens_or_closes k x ≡ eqb n k) (neither : (k s : ℕ) → seizes_or_releases k s x ≡ false) where
     abbrev after : List Made
     after = was_accepted x ∷ past
 
-    freed-or-same : (k s : ℕ) → (held_by after k s ≡ 0) ⊎ ((opened_with after k ≡ opened_with past k) × (held_by after k s ≡ held_by past k s))
-    freed-or-same k s = go (eqb k n) refl
+    freed_or_same : (k s : ℕ) → (held_by after k s ≡ 0) ⊎ ((opened_with after k ≡ opened_with past k) × (held_by after k s ≡ held_by past k s))
+    freed_or_same k s = go (eqb k n) refl
       where
         go : (b : Bool) → eqb k n ≡ b → (held_by after k s ≡ 0) ⊎ ((opened_with after k ≡ opened_with past k) × (held_by after k s ≡ held_by past k s))
-        go true e = inl (ap (λ (i : ℕ). held_by after i s) (eqb-true k n e) ∙ named-held past x n names s)
-        go false e = inr (other-opened past x n names k (eqb-false k n e), other-held past x n names k s (eqb-false k n e) (neither k s))
+        go true e = inl (ap (λ (i : ℕ). held_by after i s) (eqb-true k n e) ∙ named_held past x n names s)
+        go false e = inr (other_opened past x n names k (eqb-false k n e), other_held past x n names k s (eqb-false k n e) (neither k s))
 
-    owners-named : Owners after
-    owners-named =
+    owners_named : Owners after
+    owners_named =
         record {
-          range = λ k s. ⊎_elim (λ z. omega arith) (λ w. let l = owners.range k s in let e = w.1 in omega arith) (freed-or-same k s);
-          beyond = λ k s v e h. ⊎_elim (λ z. z) (λ w. w.1 ∙ owners.beyond k s v (sym w.0 ∙ e) h) (freed-or-same k s);
+          range = λ k s. ⊎_elim (λ z. omega arith) (λ w. let l = owners.range k s in let e = w.1 in omega arith) (freed_or_same k s);
+          beyond = λ k s v e h. ⊎_elim (λ z. z) (λ w. w.1 ∙ owners.beyond k s v (sym w.0 ∙ e) h) (freed_or_same k s);
         }
 
   -- a seize or release of s names its owner
@@ -61,59 +133,59 @@ module _ (first : Cell) (past : List Made) (sound : Sound first past) (owners : 
     abbrev later : List Made
     later = was_accepted x ∷ past
 
-    named-or-same : (k t : ℕ) → ((k ≡ n) × (t ≡ s) × (held_by later k t ≡ owner_in (some x))) ⊎ (held_by later k t ≡ held_by past k t)
-    named-or-same k t = go (eqb k n) (eqb t s) refl refl
+    named_or_same : (k t : ℕ) → ((k ≡ n) × (t ≡ s) × (held_by later k t ≡ owner_in (some x))) ⊎ (held_by later k t ≡ held_by past k t)
+    named_or_same k t = go (eqb k n) (eqb t s) refl refl
       where
         go : (a b : Bool) → eqb k n ≡ a → eqb t s ≡ b → ((k ≡ n) × (t ≡ s) × (held_by later k t ≡ owner_in (some x))) ⊎ (held_by later k t ≡ held_by past k t)
         go true true p q =
             let i = eqb-true k n p in
             let j = eqb-true t s q in
-            inl (i, j, ap (λ (m : ℕ). held_by later m t) i ∙ (ap (held_by later n) j ∙ owner-named past x n s names neither))
+            inl (i, j, ap (λ (m : ℕ). held_by later m t) i ∙ (ap (held_by later n) j ∙ owner_named past x n s names neither))
         go true false p q =
             let i = eqb-true k n p in
-            inr (ap (λ (m : ℕ). held_by later m t) i ∙ (owner-beside past x n s names neither t (eqb-false t s q) ∙ ap (λ (m : ℕ). held_by past m t) (sym i)))
-        go false b p q = inr (owner-elsewhere past x n s names neither k t (eqb-false k n p))
+            inr (ap (λ (m : ℕ). held_by later m t) i ∙ (owner_beside past x n s names neither t (eqb-false t s q) ∙ ap (λ (m : ℕ). held_by past m t) (sym i)))
+        go false b p q = inr (owner_elsewhere past x n s names neither k t (eqb-false k n p))
 
-    owners-taken : Owners later
-    owners-taken =
+    owners_taken : Owners later
+    owners_taken =
         record {
-          range = λ k t. ⊎_elim (λ w. let e = w.2 in omega (arith, in_range, e)) (λ e. let l = owners.range k t in omega arith) (named-or-same k t);
-          beyond = λ k t v e h. ⊎_elim (λ w. w.2 ∙ exists v (ap (opened_with past) (sym w.0) ∙ (sym (still-opened past x n s names neither k) ∙ e)) (let q = w.1 in omega (arith, h, q))) (λ z. z ∙ owners.beyond k t v (sym (still-opened past x n s names neither k) ∙ e) h) (named-or-same k t);
+          range = λ k t. ⊎_elim (λ w. let e = w.2 in omega (arith, in_range, e)) (λ e. let l = owners.range k t in omega arith) (named_or_same k t);
+          beyond = λ k t v e h. ⊎_elim (λ w. w.2 ∙ exists v (ap (opened_with past) (sym w.0) ∙ (sym (still_opened past x n s names neither k) ∙ e)) (let q = w.1 in omega (arith, h, q))) (λ z. z ∙ owners.beyond k t v (sym (still_opened past x n s names neither k) ∙ e) h) (named_or_same k t);
         }
 
   -- ---- what the calls keep
 
-  open-owners : (n : ℕ) (v : Values) → Owners (made (opens n v) (open_of before n v) ∷ past)
+  open_owners : (n : ℕ) (v : Values) → Owners (made (opens n v) (open_of before n v) ∷ past)
   unfolding open_of
-  open-owners n v =
-      decided (open_causes before n v) _ (λ (o : Outcome Cell). Owners (made (opens n v) (step before o) ∷ past)) (λ r. owners-refused (opens n v))
-      (λ none. owners-named (opens n v) n (λ k. refl) (λ k s. refl))
+  open_owners n v =
+      decided (open_causes before n v) _ (λ (o : Outcome Cell). Owners (made (opens n v) (step before o) ∷ past)) (λ r. owners_refused (opens n v))
+      (λ none. owners_named (opens n v) n (λ k. refl) (λ k s. refl))
 
-  close-owners : (n : ℕ) → Owners (made (closes n) (close_of before n) ∷ past)
+  close_owners : (n : ℕ) → Owners (made (closes n) (close_of before n) ∷ past)
   unfolding close_of
-  close-owners n =
-      decided (close_causes before n) _ (λ (o : Outcome Cell). Owners (made (closes n) (step before o) ∷ past)) (λ r. owners-refused (closes n))
-      (λ none. owners-named (closes n) n (λ k. refl) (λ k s. refl))
+  close_owners n =
+      decided (close_causes before n) _ (λ (o : Outcome Cell). Owners (made (closes n) (step before o) ∷ past)) (λ r. owners_refused (closes n))
+      (λ none. owners_named (closes n) n (λ k. refl) (λ k s. refl))
 
   -- an s that 10 does not refuse is one that the line's combination has
-  has-subchannel : (n s : ℕ) → no_subchannel (line_at before n) s ≡ false → (v : Values) → opened_with past n ≡ some v → s < subchannels v.combination
-  has-subchannel n s h v e =
-      ltb-true _ _ (not-false _ (ap (λ (l : LineState). no_subchannel l s) (sym (open-line first past sound n v e)) ∙ h))
+  has_subchannel : (n s : ℕ) → no_subchannel (line_at before n) s ≡ false → (v : Values) → opened_with past n ≡ some v → s < subchannels v.combination
+  has_subchannel n s h v e =
+      ltb-true _ _ (not-false _ (ap (λ (l : LineState). no_subchannel l s) (sym (open_line first past sound n v e)) ∙ h))
 
-  seize-owners : (n s o : ℕ) → Owners (made (seizes n s o) (seize_of before n s o) ∷ past)
+  seize_owners : (n s o : ℕ) → Owners (made (seizes n s o) (seize_of before n s o) ∷ past)
   unfolding seize_of
-  seize-owners n s o =
-      decided (seize_causes before n s o) _ (λ (x : Outcome Cell). Owners (made (seizes n s o) (step before x) ∷ past)) (λ r. owners-refused (seizes n s o))
-      (λ none. owners-taken (seizes n s o) n s (λ k t. refl) (λ k. refl) (ltb-false 65535 o (or-none-right (eqb o 0) (ltb 65535 o) none.0.1.0)) (λ v e h. absurd (let l = has-subchannel n s none.1.1.0.0 v e in omega (arith, h, l))))
+  seize_owners n s o =
+      decided (seize_causes before n s o) _ (λ (x : Outcome Cell). Owners (made (seizes n s o) (step before x) ∷ past)) (λ r. owners_refused (seizes n s o))
+      (λ none. owners_taken (seizes n s o) n s (λ k t. refl) (λ k. refl) (ltb-false 65535 o (or_none_right (eqb o 0) (ltb 65535 o) none.0.1.0)) (λ v e h. absurd (let l = has_subchannel n s none.1.1.0.0 v e in omega (arith, h, l))))
 
-  release-owners : (n s o : ℕ) → Owners (made (releases n s o) (release_of before n s o) ∷ past)
+  release_owners : (n s o : ℕ) → Owners (made (releases n s o) (release_of before n s o) ∷ past)
   unfolding release_of
-  release-owners n s o =
-      decided (release_causes before n s o) _ (λ (x : Outcome Cell). Owners (made (releases n s o) (step before x) ∷ past)) (λ r. owners-refused (releases n s o))
-      (λ none. owners-taken (releases n s o) n s (λ k t. refl) (λ k. refl) (omega arith) (λ v e h. refl))
+  release_owners n s o =
+      decided (release_causes before n s o) _ (λ (x : Outcome Cell). Owners (made (releases n s o) (step before x) ∷ past)) (λ r. owners_refused (releases n s o))
+      (λ none. owners_taken (releases n s o) n s (λ k t. refl) (λ k. refl) (omega arith) (λ v e h. refl))
 
-  pub call-owners : (x : Call) → Owners (made x (calling before x) ∷ past)
-  call-owners (opens n v) = open-owners n v
-  call-owners (closes n) = close-owners n
-  call-owners (seizes n s o) = seize-owners n s o
-  call-owners (releases n s o) = release-owners n s o
+  pub call_owners : (x : Call) → Owners (made x (calling before x) ∷ past)
+  call_owners (opens n v) = open_owners n v
+  call_owners (closes n) = close_owners n
+  call_owners (seizes n s o) = seize_owners n s o
+  call_owners (releases n s o) = release_owners n s o

@@ -10,7 +10,7 @@ use native.Mathlib.Omega.{arith}
 use lib.Dec.{eqb, lit<}
 use borrow.Author.Tests.{eqb-true, eqb-false, eq-eqb, ne_eqb, leb-false, not-false}
 use Rattle.answers.specs.Outcome.{accepted}
-use Rattle.answers.proofs.Decide.{accepted-has-none}
+use Rattle.answers.proofs.Decide.{accepted_has_none}
 use Rattle.answers.proofs.Tests.{and_left}
 use Rattle.clock.specs.Clock.{hyperframe}
 use Rattle.maps.specs.Combinations.{rows_of}
@@ -18,11 +18,11 @@ use Rattle.maps.specs.Map.{map_of}
 use Rattle.maps.specs.Rows.{standing}
 use Rattle.groups.specs.declared.PagingBlock.{PagingBlock}
 use Rattle.groups.specs.Paging.{Common, last_three, n, r, timeslot, is_multiframe, block, common_in, is_paged, later, wait, block_for, is_imsi, paging_causes, paging_of}
-use Rattle.groups.proofs.BlockFrames.{start-below}
+use Rattle.groups.proofs.BlockFrames.{start_below}
 use Rattle.groups.proofs.FirstBlock.{FirstBlock, first, past_turn}
 use Rattle.groups.proofs.Group.{turn_below}
-use Rattle.groups.proofs.Imsi.{last-three-below}
-use Rattle.groups.proofs.PagedFrames.{stands-alone, in_map}
+use Rattle.groups.proofs.Imsi.{last_three_below}
+use Rattle.groups.proofs.PagedFrames.{stands_alone, in_map}
 use Rattle.rules.specs.State.{Cell, LineState, Values, line_with, line_at}
 use Rattle.rules.specs.Calls.{any_line, has_combination, is_common_line}
 use Rattle.rules.specs.Paging.{common_of, page_of}
@@ -30,26 +30,26 @@ use Rattle.rules.specs.History.{Made, opened_with, held_by, cell_from}
 use Rattle.rules.specs.CollisionFree.{slot_from}
 use Rattle.rules.specs.Reached.{PagedOn, PageAndLine}
 use Rattle.rules.proofs.Begun.{Begun}
-use Rattle.rules.proofs.Sound.{allowed-line, Sound, open-line}
-use Rattle.rules.proofs.Places.{Place, five-common, Placed, Such, none-such, some-such, with-combination}
-use Rattle.rules.proofs.CommonLines.{CommonIn, at-most-four, common-in}
-use Rattle.rules.proofs.LineAnswer.{line-is}
+use Rattle.rules.proofs.Sound.{allowed_line, Sound, open_line}
+use Rattle.rules.proofs.Places.{Place, five_common, Placed, Such, none_such, some_such, with_combination}
+use Rattle.rules.proofs.CommonLines.{CommonIn, at_most_four, common_found}
+use Rattle.rules.proofs.LineAnswer.{line_is}
 use Rattle.rules.proofs.Known.{known}
 
 -- the phone's block, where there are groups
-group-block : Common → ℕ → ℕ → PagingBlock
-group-block c i fn = record { tn = timeslot c i; block = block c i; frame = later fn (wait c i fn) }
+group_block : Common → ℕ → ℕ → PagingBlock
+group_block c i fn = record { tn = timeslot c i; block = block c i; frame = later fn (wait c i fn) }
 
-block-for : (c : Common) (i fn : ℕ) → 0 < n c → group-block c i fn ≡ block_for c i fn
-unfolding block_for group-block
-block-for c i fn h = sym (ap (λ (t : Bool). cond t none (group-block c i fn)) (ne_eqb (n c) 0 (λ z. omega arith)))
+block_for_group : (c : Common) (i fn : ℕ) → 0 < n c → group_block c i fn ≡ block_for c i fn
+unfolding block_for group_block
+block_for_group c i fn h = sym (ap (λ (t : Bool). cond t none (group_block c i fn)) (ne_eqb (n c) 0 (λ z. omega arith)))
   where
     none : PagingBlock
     none = record { tn = 0; block = 0; frame = 0 }
 
 -- the multiframe of a frame that is given by multiframe and place
-first-multiframe : {f m s : ℕ} → f ≡ 51 * m + s → s < 51 → f / 51 ≡ m
-first-multiframe e h = omega arith
+first_multiframe : {f m s : ℕ} → f ≡ 51 * m + s → s < 51 → f / 51 ≡ m
+first_multiframe e h = omega arith
 
 module _ (start : Cell) (begun : Begun start) (past : List Made) (sound : Sound start past) (placed : Placed start past) where
   abbrev cell : Cell
@@ -60,25 +60,25 @@ module _ (start : Cell) (begun : Begun start) (past : List Made) (sound : Sound 
 
   -- a 5, if there is one
   five : any_line cell (has_combination 5) ≡ true → Such start past sound (has_combination 5)
-  five e = some-such start past sound (has_combination 5) (with-combination start past sound 5 (λ z. omega arith)) e
+  five e = some_such start past sound (has_combination 5) (with_combination start past sound 5 (λ z. omega arith)) e
 
   -- n is above 0
-  pub has-groups : 0 < n common
+  pub has_groups : 0 < n common
   unfolding cell_from
-  has-groups = go (any_line cell (has_combination 5)) refl
+  has_groups = go (any_line cell (has_combination 5)) refl
     where
       go : (b : Bool) → any_line cell (has_combination 5) ≡ b → 0 < (cond b 3 9 - start.ag) * start.p
       go true e =
           let w = five e in
           let k = eqb-true w.values.combination 5 w.passes in
-          let a = (placed.in_place w.line w.values w.is_open (five-common _ k)).reserved k in
-          let p = begun.p-range in
+          let a = (placed.in_place w.line w.values w.is_open (five_common _ k)).reserved k in
+          let p = begun.p_range in
           mul-pos (omega (arith, a)) (omega (arith, p))
-      go false e = let a = begun.ag-range in let p = begun.p-range in mul-pos (omega (arith, a)) (omega (arith, p))
+      go false e = let a = begun.ag_range in let p = begun.p_range in mul-pos (omega (arith, a)) (omega (arith, p))
 
   -- the combination of the common line in a timeslot
-  combination-of : (tn : ℕ) (w : CommonIn start begun past sound placed tn) → w.values.combination ≡ common_in common.combined tn
-  combination-of tn w = go (any_line cell (has_combination 5)) refl
+  combination_of : (tn : ℕ) (w : CommonIn start begun past sound placed tn) → w.values.combination ≡ common_in common.combined tn
+  combination_of tn w = go (any_line cell (has_combination 5)) refl
     where
       go : (b : Bool) → any_line cell (has_combination 5) ≡ b → w.values.combination ≡ cond b 5 (cond (eqb tn 0) 4 6)
       go true e =
@@ -93,7 +93,7 @@ module _ (start : Cell) (begun : Begun start) (past : List Made) (sound : Sound 
           by_place : Place w.values → w.values.combination ≡ cond (eqb tn 0) 4 6
           by_place (inl p) =
               ⊎_elim (λ k. k ∙ sym (ap (λ (b : Bool). cond b 4 6) (eq-eqb tn 0 (sym w.in_timeslot ∙ p.1))))
-              (λ k. absurd (none-such start past sound (has_combination 5) e w.line w.values w.is_open (eq-eqb _ _ k))) p.0
+              (λ k. absurd (none_such start past sound (has_combination 5) e w.line w.values w.is_open (eq-eqb _ _ k))) p.0
           by_place (inr p) = p.0 ∙ sym (ap (λ (b : Bool). cond b 4 6) (ne_eqb tn 0 (λ z. let t = w.in_timeslot in let h = p.1 in omega (arith, z, t, h))))
 
   -- ---- the answer
@@ -106,57 +106,57 @@ module _ (start : Cell) (begun : Begun start) (past : List Made) (sound : Sound 
     frame = later fn (wait common i fn)
 
     found : FirstBlock common i fn
-    found = first common i fn has-groups (last-three-below digits imsi) hf
+    found = first common i fn has_groups (last_three_below digits imsi) hf
 
     line : CommonIn start begun past sound placed (timeslot common i)
-    line = common-in start begun past sound placed (r common i / n common) (turn_below common i has-groups hk)
+    line = common_found start begun past sound placed (r common i / n common) (turn_below common i has_groups hk)
 
-    paged-on : PagedOn cell digits fn (group-block common i fn)
-    unfolding is_paged frame group-block
-    paged-on =
+    paged_on : PagedOn cell digits fn (group_block common i fn)
+    unfolding is_paged frame group_block
+    paged_on =
         record {
           line = line.line;
-          within = allowed-line start line.line v (sound.allowed line.line v line.is_open);
+          within = allowed_line start line.line v (sound.allowed line.line v line.is_open);
           common = ap is_common_line opened ∙ line.common;
           in_timeslot = ap (λ (l : LineState). l.tn) opened ∙ line.in_timeslot;
           slot = slot_from start past line.line v frame 0;
-          answer = line-is start past sound line.line v line.is_open frame in-hyperframe 0 (lit< tt);
-          burst = ap (λ (k : ℕ). standing (rows_of k v.tn 0) frame) combination ∙ (ap (λ (t : ℕ). standing (rows_of (common_in common.combined (timeslot common i)) t 0) frame) line.in_timeslot ∙ stands-alone common i has-groups frame found.begins);
-          map = ap (λ (k : ℕ). map_of k (timeslot common i) frame 0) (ap (λ (l : LineState). l.combination) opened ∙ combination) ∙ in_map common i has-groups frame found.begins below-8 in-hyperframe;
+          answer = line_is start past sound line.line v line.is_open frame in_hyperframe 0 (lit< tt);
+          burst = ap (λ (k : ℕ). standing (rows_of k v.tn 0) frame) combination ∙ (ap (λ (t : ℕ). standing (rows_of (common_in common.combined (timeslot common i)) t 0) frame) line.in_timeslot ∙ stands_alone common i has_groups frame found.begins);
+          map = ap (λ (k : ℕ). map_of k (timeslot common i) frame 0) (ap (λ (l : LineState). l.combination) opened ∙ combination) ∙ in_map common i has_groups frame found.begins below_8 in_hyperframe;
           multiframe = eqb-true _ _ (and_left (is_multiframe common i frame) _ found.begins);
           frame = refl;
           first = found.none_before;
-          past_turn = λ none. first-multiframe (past_turn common i fn has-groups (last-three-below digits imsi) hf none) (start-below (block common i));
+          past_turn = λ none. first_multiframe (past_turn common i fn has_groups (last_three_below digits imsi) hf none) (start_below (block common i));
         }
       where
         v : Values
         v = line.values
 
         opened : line_at cell line.line ≡ line_with v (held_by past line.line)
-        opened = open-line start past sound line.line v line.is_open
+        opened = open_line start past sound line.line v line.is_open
 
-        in-hyperframe : frame < hyperframe
-        in-hyperframe = mod-lt (fn + wait common i fn) (lit< tt)
+        in_hyperframe : frame < hyperframe
+        in_hyperframe = mod-lt (fn + wait common i fn) (lit< tt)
 
         combination : v.combination ≡ common_in common.combined (timeslot common i)
-        combination = combination-of (timeslot common i) line
+        combination = combination_of (timeslot common i) line
 
-        below-8 : timeslot common i < 8
-        below-8 = let a = turn_below common i has-groups hk in let b = at-most-four start begun past sound placed in omega (arith, a, b)
+        below_8 : timeslot common i < 8
+        below_8 = let a = turn_below common i has_groups hk in let b = at_most_four start begun past sound placed in omega (arith, a, b)
 
-  page-shown : (digits : List ℕ) (fn : ℕ) (b : PagingBlock) → page_of cell digits fn ≡ accepted b → PagedOn cell digits fn b
+  page_shown : (digits : List ℕ) (fn : ℕ) (b : PagingBlock) → page_of cell digits fn ≡ accepted b → PagedOn cell digits fn b
   unfolding page_of paging_of
-  page-shown digits fn b e =
-      let w = accepted-has-none _ (paging_causes common digits fn) b e in
+  page_shown digits fn b e =
+      let w = accepted_has_none _ (paging_causes common digits fn) b e in
       let hk : 0 < common.K = ⊎_elim (λ z. absurd (eqb-false _ _ w.1.1.0.0 z)) (λ p. p) (eq-zero-or-pos common.K) in
-      subst (PagedOn cell digits fn) (block-for common (last_three digits) fn has-groups ∙ w.0)
-      (paged-on digits fn (leb-false _ _ w.1.0.0) (not-false _ w.1.0.1.0) hk)
+      subst (PagedOn cell digits fn) (block_for_group common (last_three digits) fn has_groups ∙ w.0)
+      (paged_on digits fn (leb-false _ _ w.1.0.0) (not-false _ w.1.0.1.0) hk)
 
 -- ---- the claim
 
-pub page-and-line : PageAndLine
+pub page_and_line : PageAndLine
 unfolding PageAndLine
-page-and-line c w =
+page_and_line c w =
     let k = known c w in
     subst (λ (x : Cell). (digits : List ℕ) (fn : ℕ) (b : PagingBlock) → page_of x digits fn ≡ accepted b → PagedOn x digits fn b) (sym k.as_listed)
-    (page-shown k.first k.begun k.past k.sound k.placed)
+    (page_shown k.first k.begun k.past k.sound k.placed)

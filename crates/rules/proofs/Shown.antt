@@ -14,21 +14,22 @@ use Rattle.clock.specs.Clock.{hyperframe}
 use Rattle.maps.specs.Channels.{Standing, is_common}
 use Rattle.maps.specs.Combinations.{rows_of}
 use Rattle.maps.specs.Rows.{told, standing}
-use Rattle.maps.proofs.OneChannel.{one-channel}
-use Rattle.maps.proofs.Stood.{Stood, stood, standing-stood}
+use Rattle.maps.proofs.OneChannel.{one_channel_each_frame}
+use Rattle.maps.proofs.Stood.{Stood, stood, standing_stood}
 use Rattle.rules.specs.State.{Cell, LineState, Values, line_at}
 use Rattle.rules.specs.OnAir.{Slot, owner_of, slot_of, line_causes, line_of}
 use Rattle.rules.specs.History.{Made, opened_with, held_by, cell_from}
 use Rattle.rules.specs.Carried.{Channel, subchannel, common_part, line_number, is_held, is_of, Spot, Stands}
 use Rattle.rules.specs.CollisionFree.{slot_from, is_owned, Shown}
-use Rattle.rules.proofs.Sound.{allowed-tn, Owned, Sound, open-line, Opened, is-opened}
-use Rattle.rules.proofs.LineAnswer.{line-is}
+use Rattle.rules.proofs.Sound.{allowed_tn, Sound, open_line, Opened, is_opened}
+use Rattle.rules.proofs.Owners.{Owned}
+use Rattle.rules.proofs.LineAnswer.{line_is}
 
 -- the owner that is shown is that of any burst that stands there
-owner-is : (n tn d fn : ℕ) → tn < 8 → d < 2 → (held : ℕ → ℕ) (x : Standing) → Memᴰ x (standing (rows_of n tn d) fn)
+owner_is : (n tn d fn : ℕ) → tn < 8 → d < 2 → (held : ℕ → ℕ) (x : Standing) → Memᴰ x (standing (rows_of n tn d) fn)
     → owner_of held (standing (rows_of n tn d) fn) ≡ cond (is_common x.kind) 0 (held x.subchannel)
 unfolding owner_of
-owner-is n tn d fn hn hd held x m = go (standing (rows_of n tn d) fn) m (λ y w. one-channel tn hn d hd fn n y x w m)
+owner_is n tn d fn hn hd held x m = go (standing (rows_of n tn d) fn) m (λ y w. one_channel_each_frame tn hn d hd fn n y x w m)
   where
     go : (xs : List Standing) → Memᴰ x xs → ((y : Standing) → Memᴰ y xs → (y.kind ≡ x.kind) × (y.subchannel ≡ x.subchannel))
         → owner_of held xs ≡ cond (is_common x.kind) 0 (held x.subchannel)
@@ -44,7 +45,7 @@ owned past own (subchannel n s) b h =
     rw (c, e) (own n s)
 owned past own (common_part n) b h = rw h refl
 
-module _ (first : Cell) (past : List Made) (sound : Sound first past) (x : Channel) (spot : Spot) (hf : spot.fn < hyperframe) (hd : spot.direction < 2) where
+module _ (first : Cell) (past : List Made) (sound : Sound first past) (own : Owned past) (x : Channel) (spot : Spot) (hf : spot.fn < hyperframe) (hd : spot.direction < 2) where
   abbrev n : ℕ
   n = line_number x
 
@@ -55,65 +56,65 @@ module _ (first : Cell) (past : List Made) (sound : Sound first past) (x : Chann
   abbrev shows : Values → Slot
   shows v = slot_from first past n v spot.fn spot.direction
 
-  held-owned : (v : Values) → opened_with past n ≡ some v → (b : Standing) → Memᴰ b (standing (rows_of v.combination v.tn spot.direction) spot.fn) → is_of x b ≡ true
+  held_owned : (v : Values) → opened_with past n ≡ some v → (b : Standing) → Memᴰ b (standing (rows_of v.combination v.tn spot.direction) spot.fn) → is_of x b ≡ true
       → is_held past x ≡ is_owned x (shows v).owner
-  held-owned v e b m h =
-      owned past sound.owned x b h
-      ∙ ap (is_owned x) (sym (owner-is v.combination v.tn spot.direction spot.fn (allowed-tn first n v (sound.allowed n v e)) hd (held_by past n) b m))
+  held_owned v e b m h =
+      owned past own x b h
+      ∙ ap (is_owned x) (sym (owner_is v.combination v.tn spot.direction spot.fn (allowed_tn first n v (sound.allowed n v e)) hd (held_by past n) b m))
 
-  tn-is : (v : Values) → opened_with past n ≡ some v → (line_at cell n).tn ≡ v.tn
-  tn-is v e = ap (λ (l : LineState). l.tn) (open-line first past sound n v e)
+  tn_is : (v : Values) → opened_with past n ≡ some v → (line_at cell n).tn ≡ v.tn
+  tn_is v e = ap (λ (l : LineState). l.tn) (open_line first past sound n v e)
 
-  pub stands-shown : Stands first past x spot → Shown cell x spot
-  stands-shown a =
+  pub stands_shown : Stands first past x spot → Shown cell x spot
+  stands_shown a =
       let v = a.values in
       let m = stood (rows_of v.combination v.tn spot.direction) spot.fn a.row a.of_map a.in_frame in
       record {
         slot = shows v;
-        answer = line-is first past sound n v a.is_open spot.fn hf spot.direction hd;
+        answer = line_is first past sound n v a.is_open spot.fn hf spot.direction hd;
         burst = told a.row;
         in_frame = m;
         of_channel = a.of_channel;
-        owned = sym (held-owned v a.is_open (told a.row) m a.of_channel) ∙ a.held;
-        in_timeslot = tn-is v a.is_open ∙ a.in_timeslot;
+        owned = sym (held_owned v a.is_open (told a.row) m a.of_channel) ∙ a.held;
+        in_timeslot = tn_is v a.is_open ∙ a.in_timeslot;
         on_arfcn = a.on_arfcn;
       }
 
   -- `line` is accepted of open lines only
-  shown-opened : (slot : Slot) → line_of cell n spot.fn spot.direction ≡ accepted slot → Opened first past sound n
+  shown_opened : (slot : Slot) → line_of cell n spot.fn spot.direction ≡ accepted slot → Opened first past sound n
   unfolding line_of
-  shown-opened slot =
+  shown_opened slot =
       decided (line_causes cell n spot.fn spot.direction) (slot_of cell (line_at cell n) spot.fn spot.direction) (λ (o : Outcome Slot). o ≡ accepted slot → Opened first past sound n)
       (λ r e. absurd (let z : ◌≡◌ {A = ℕ} 0 1 = cc in omega arith))
-      (λ none e. is-opened first past sound n none.0.0 none.1.0.0)
+      (λ none e. is_opened first past sound n none.0.0 none.1.0.0)
 
-  pub shown-stands : Shown cell x spot → Stands first past x spot
-  shown-stands a =
+  pub shown_stands : Shown cell x spot → Stands first past x spot
+  shown_stands a =
       record {
         values = v;
         is_open = w.is_open;
-        held = held-owned v w.is_open a.burst there a.of_channel ∙ subst (λ (s : Slot). is_owned x s.owner ≡ true) same a.owned;
+        held = held_owned v w.is_open a.burst there a.of_channel ∙ subst (λ (s : Slot). is_owned x s.owner ≡ true) same a.owned;
         row = r.by;
         of_map = r.member;
         of_channel = subst (λ (b : Standing). is_of x b ≡ true) (sym r.tells) a.of_channel;
         in_frame = r.stands;
-        in_timeslot = sym (tn-is v w.is_open) ∙ a.in_timeslot;
+        in_timeslot = sym (tn_is v w.is_open) ∙ a.in_timeslot;
         on_arfcn = ap (λ (s : Slot). s.arfcn) (sym same) ∙ a.on_arfcn;
       }
     where
       w : Opened first past sound n
-      w = shown-opened a.slot a.answer
+      w = shown_opened a.slot a.answer
 
       v : Values
       v = w.values
 
       same : a.slot ≡ shows v
       same =
-          let e : accepted a.slot ≡ accepted (shows v) = sym a.answer ∙ line-is first past sound n v w.is_open spot.fn hf spot.direction hd in
+          let e : accepted a.slot ≡ accepted (shows v) = sym a.answer ∙ line_is first past sound n v w.is_open spot.fn hf spot.direction hd in
           let q : a.slot ≡ shows v = cc in q
 
       there : Memᴰ a.burst (standing (rows_of v.combination v.tn spot.direction) spot.fn)
       there = subst (λ (s : Slot). Memᴰ a.burst s.standing) same a.in_frame
 
       r : Stood (rows_of v.combination v.tn spot.direction) spot.fn a.burst
-      r = standing-stood (rows_of v.combination v.tn spot.direction) spot.fn a.burst there
+      r = standing_stood (rows_of v.combination v.tn spot.direction) spot.fn a.burst there

@@ -8,13 +8,13 @@ use native.Mathlib.Omega.{arith}
 use lib.Dec.{eqb, ltb}
 use borrow.Author.Tests.{eqb-true, ltb-true, ne_eqb}
 use Rattle.answers.specs.Search.{all_below}
-use Rattle.answers.proofs.Search.{all-at}
+use Rattle.answers.proofs.Search.{all_at}
 use Rattle.answers.proofs.Tables.{every}
-use Rattle.answers.proofs.Tests.{and_left, and_right, or-rest, lt-not-ltb}
+use Rattle.answers.proofs.Tests.{and_left, and_right, or_rest, lt_not_ltb}
 use Rattle.maps.specs.Channels.{is_common}
 use Rattle.maps.specs.Rows.{Row, numbered, each, from}
 use Rattle.maps.specs.Combinations.{Combination, full_rate, half_rate, uncombined, combined, additional, sdcch8, combinations, rows_among, rows_of}
-use Rattle.maps.proofs.Stood.{every-member}
+use Rattle.maps.proofs.Stood.{every_member}
 use Rattle.rules.specs.Calls.{subchannels}
 use Rattle.rules.proofs.Lines.{has_room}
 
@@ -42,10 +42,10 @@ module _ (tn : ℕ) (hn : tn < 8) (d : ℕ) (hd : d < 2) (n : ℕ) where
       go false q w = w
 
   -- a row that is not of the common part is of a subchannel that the combination has
-  pub row-subchannel : (r : Row) → Memᴰ r (rows_of n tn d) → is_common r.kind ≡ false → r.subchannel < subchannels n
-  row-subchannel r m c =
-      ltb-true _ _ (or-rest (is_common r.kind) _ c
-      (every-member (fits n) (rows_of n tn d) (among combinations (all-at (λ (u : ℕ). all_fit tn u combinations) 2 (all-at (λ (t : ℕ). all_below (λ (u : ℕ). all_fit t u combinations) 2) 8 tested tn hn) d hd)) r m))
+  pub row_subchannel : (r : Row) → Memᴰ r (rows_of n tn d) → is_common r.kind ≡ false → r.subchannel < subchannels n
+  row_subchannel r m c =
+      ltb-true _ _ (or_rest (is_common r.kind) _ c
+      (every_member (fits n) (rows_of n tn d) (among combinations (all_at (λ (u : ℕ). all_fit tn u combinations) 2 (all_at (λ (t : ℕ). all_below (λ (u : ℕ). all_fit t u combinations) 2) 8 tested tn hn) d hd)) r m))
 
 -- ---- and each of them has rows
 
@@ -61,8 +61,8 @@ unfolding all_below every rows_among numbered each from full_rate half_rate unco
 all_tested = refl
 
 -- only numbers below 8 have subchannels
-below-eight : (n s : ℕ) → s < subchannels n → n < 8
-below-eight n s h = go (dec_lt n 8)
+below_eight : (n s : ℕ) → s < subchannels n → n < 8
+below_eight n s h = go (dec_lt n 8)
   where
     go : Dec (n < 8) → n < 8
     go (yes l) = l
@@ -70,9 +70,9 @@ below-eight n s h = go (dec_lt n 8)
         absurd (let e : subchannels n ≡ 0 = rw (ne_eqb n 1 (λ q. omega arith), ne_eqb n 2 (λ q. omega arith), ne_eqb n 5 (λ q. omega arith), ne_eqb n 7 (λ q. omega arith)) refl in omega arith)
 
 -- a subchannel that the combination has, has rows in every timeslot and direction
-pub subchannel-row : (n tn d s : ℕ) → tn < 8 → d < 2 → s < subchannels n → some_row s (rows_of n tn d) ≡ true
-subchannel-row n tn d s ht hd h =
-    or-rest (not (ltb s (subchannels n))) _ (lt-not-ltb s (subchannels n) h)
-    (all-at (has_rows n tn d) 8 (all-at (λ (u : ℕ). all_below (has_rows n tn u) 8) 2 (all-at (λ (t : ℕ). all_below (λ (u : ℕ). all_below (has_rows n t u) 8) 2) 8
-    (all-at (λ (m : ℕ). all_below (λ (t : ℕ). all_below (λ (u : ℕ). all_below (has_rows m t u) 8) 2) 8) 8 all_tested n (below-eight n s h)) tn ht) d hd)
+pub subchannel_row : (n tn d s : ℕ) → tn < 8 → d < 2 → s < subchannels n → some_row s (rows_of n tn d) ≡ true
+subchannel_row n tn d s ht hd h =
+    or_rest (not (ltb s (subchannels n))) _ (lt_not_ltb s (subchannels n) h)
+    (all_at (has_rows n tn d) 8 (all_at (λ (u : ℕ). all_below (has_rows n tn u) 8) 2 (all_at (λ (t : ℕ). all_below (λ (u : ℕ). all_below (has_rows n t u) 8) 2) 8
+    (all_at (λ (m : ℕ). all_below (λ (t : ℕ). all_below (λ (u : ℕ). all_below (has_rows m t u) 8) 2) 8) 8 all_tested n (below_eight n s h)) tn ht) d hd)
     s (let m = has_room n in omega (arith, m)))

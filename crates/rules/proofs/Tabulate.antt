@@ -13,46 +13,46 @@ module _ {A : Type 0} where
   both : {x y : A} {xs ys : List A} → x ≡ y → xs ≡ ys → (x ∷ xs) ≡ (y ∷ ys)
   both p q = cc
 
-  pub tabulate-at : (n : ℕ) (f : ℕ → A) (d : A) (k : ℕ) → k < n → get_or (tabulate n f) k d ≡ f k
+  pub tabulate_at : (n : ℕ) (f : ℕ → A) (d : A) (k : ℕ) → k < n → get_or (tabulate n f) k d ≡ f k
   unfolding tabulate
-  tabulate-at zero f d k h = absurd (not-suc-le-zero h)
-  tabulate-at (suc n) f d zero h = refl
-  tabulate-at (suc n) f d (suc k) h = tabulate-at n (λ (i : ℕ). f (suc i)) d k (le_of_suc-le-suc h)
+  tabulate_at zero f d k h = absurd (not-suc-le-zero h)
+  tabulate_at (suc n) f d zero h = refl
+  tabulate_at (suc n) f d (suc k) h = tabulate_at n (λ (i : ℕ). f (suc i)) d k (le_of_suc-le-suc h)
 
   -- equal entries
-  pub tabulate-same : (n : ℕ) (f g : ℕ → A) → ((k : ℕ) → k < n → f k ≡ g k) → tabulate n f ≡ tabulate n g
+  pub tabulate_same : (n : ℕ) (f g : ℕ → A) → ((k : ℕ) → k < n → f k ≡ g k) → tabulate n f ≡ tabulate n g
   unfolding tabulate
-  tabulate-same zero f g e = refl
-  tabulate-same (suc n) f g e = both (e 0 (omega arith)) (tabulate-same n (λ (i : ℕ). f (suc i)) (λ (i : ℕ). g (suc i)) (λ k h. e (suc k) (omega arith)))
+  tabulate_same zero f g e = refl
+  tabulate_same (suc n) f g e = both (e 0 (omega arith)) (tabulate_same n (λ (i : ℕ). f (suc i)) (λ (i : ℕ). g (suc i)) (λ k h. e (suc k) (omega arith)))
 
   -- one entry set: equal elsewhere
-  pub tabulate-set : (n : ℕ) (f g : ℕ → A) (i : ℕ) → ((k : ℕ) → k < n → (k ≡ i → ⊥) → f k ≡ g k) → set (tabulate n f) i (g i) ≡ tabulate n g
+  pub tabulate_set : (n : ℕ) (f g : ℕ → A) (i : ℕ) → ((k : ℕ) → k < n → (k ≡ i → ⊥) → f k ≡ g k) → set (tabulate n f) i (g i) ≡ tabulate n g
   unfolding tabulate
-  tabulate-set zero f g i e = refl
-  tabulate-set (suc n) f g zero e =
+  tabulate_set zero f g i e = refl
+  tabulate_set (suc n) f g zero e =
       ap {B = List A} (λ (t : List A). g 0 ∷ t)
-      (tabulate-same n (λ (k : ℕ). f (suc k)) (λ (k : ℕ). g (suc k)) (λ k h. e (suc k) (omega arith) (λ q. omega arith)))
-  tabulate-set (suc n) f g (suc i) e =
+      (tabulate_same n (λ (k : ℕ). f (suc k)) (λ (k : ℕ). g (suc k)) (λ k h. e (suc k) (omega arith) (λ q. omega arith)))
+  tabulate_set (suc n) f g (suc i) e =
       both (e 0 (omega arith) (λ q. omega arith))
-      (tabulate-set n (λ (k : ℕ). f (suc k)) (λ (k : ℕ). g (suc k)) i (λ k h d. e (suc k) (omega arith) (λ q. d (omega arith))))
+      (tabulate_set n (λ (k : ℕ). f (suc k)) (λ (k : ℕ). g (suc k)) i (λ k h d. e (suc k) (omega arith) (λ q. d (omega arith))))
 
   -- a list that fits, read entry by entry
-  pub tabulate-list : (n : ℕ) (xs : List A) (d : A) → length xs ≤ n → take (length xs) (tabulate n (λ k. get_or xs k d)) ≡ xs
+  pub tabulate_list : (n : ℕ) (xs : List A) (d : A) → length xs ≤ n → take (length xs) (tabulate n (λ k. get_or xs k d)) ≡ xs
   unfolding tabulate
-  tabulate-list n [] d h = refl
-  tabulate-list zero (x ∷ xs) d h = absurd (not-suc-le-zero h)
-  tabulate-list (suc n) (x ∷ xs) d h = ap {B = List A} (λ (t : List A). x ∷ t) (tabulate-list n xs d (le_of_suc-le-suc h))
+  tabulate_list n [] d h = refl
+  tabulate_list zero (x ∷ xs) d h = absurd (not-suc-le-zero h)
+  tabulate_list (suc n) (x ∷ xs) d h = ap {B = List A} (λ (t : List A). x ∷ t) (tabulate_list n xs d (le_of_suc-le-suc h))
 
-  pub tabulate-length : (n : ℕ) (f : ℕ → A) → length (tabulate n f) ≡ n
+  pub tabulate_length : (n : ℕ) (f : ℕ → A) → length (tabulate n f) ≡ n
   unfolding tabulate
-  tabulate-length zero f = refl
-  tabulate-length (suc n) f = ap suc (tabulate-length n (λ (k : ℕ). f (suc k)))
+  tabulate_length zero f = refl
+  tabulate_length (suc n) f = ap suc (tabulate_length n (λ (k : ℕ). f (suc k)))
 
   -- a list with n entries, each as f has it
   pub tabulated : (n : ℕ) (f : ℕ → A) (d : A) (l : List A) → length l ≡ n → ((k : ℕ) → k < n → get_or l k d ≡ f k) → l ≡ tabulate n f
   tabulated n f d l e h =
-      ext_get_or d l (tabulate n f) (e ∙ sym (tabulate-length n f))
-      (λ k b. let w : k < n = omega arith in h k w ∙ sym (tabulate-at n f d k w))
+      ext_get_or d l (tabulate n f) (e ∙ sym (tabulate_length n f))
+      (λ k b. let w : k < n = omega arith in h k w ∙ sym (tabulate_at n f d k w))
 
   -- the entries below k are as f has them, and the next is stored
   pub stored : (f : ℕ → A) (d : A) (l : List A) (k : ℕ) (v : A) → k < length l → v ≡ f k → ((i : ℕ) → i < k → get_or l i d ≡ f i)

@@ -1,6 +1,6 @@
 -- What is claimed of the rules beside the third demand (CollisionFree.antt), who and page (Reached.antt), what a cell is (WellFormed.antt) and the
 -- computed answers (Borders.antt, ExampleRun.antt, DrillSheet.antt). The statements; proofs/Claims.antt proves them. Assumes nothing.
-use Rattle.std.specs.Prelude.{ℕ, ◌*◌, ◌<◌, ◌≤◌, ◌≡◌, ◌≢◌, ◌⊎◌, true, false, List, [], ◌∷◌}
+use Rattle.std.specs.Prelude.{ℕ, ◌*◌, ◌<◌, ◌≤◌, ◌≡◌, ◌≢◌, ◌⊎◌, Bool, true, false, not, List, [], ◌∷◌, eqb}
 use mathlib.Core.List.{Memᴰ}
 use Rattle.std.proofs.Math.Option.{none, some}
 use Rattle.answers.specs.Outcome.{Refused, accepted, Cause, any_of}
@@ -15,6 +15,8 @@ use Rattle.rules.specs.OnAir.{slot_of, line_causes, line_of}
 use Rattle.rules.specs.Who.{Match, who_causes, match_of, who_of}
 use Rattle.rules.specs.Paging.{common_lines, common_of, page_of}
 use Rattle.rules.specs.History.{Call, opens, closes, seizes, releases, Made, opened_with, held_by, is_seized}
+use Rattle.rules.specs.Carried.{Channel, subchannel, common_part, is_held}
+use Rattle.rules.specs.CollisionFree.{run, begin}
 use Rattle.rules.specs.Reached.{Reached}
 use Rattle.rules.specs.WellFormed.{Closed, OneAt}
 
@@ -126,6 +128,16 @@ pub record ReadsTheList : Type 0 where
   pub beside_seized : (past : List Made) (n s o k t : ℕ) → Beside n s k t → HeldAsBefore past (and_accepted past (seizes n s o)) k t
   pub beside_released : (past : List Made) (n s o k t : ℕ) → Beside n s k t → HeldAsBefore past (and_accepted past (releases n s o)) k t
   pub still_open : (past : List Made) (n s o k : ℕ) → OpenAsBefore past (and_accepted past (seizes n s o)) k × OpenAsBefore past (and_accepted past (releases n s o)) k
+
+-- an owner is 1 to 65,535: after the calls of any list, from the cell that any start hands back, "held" is "its owner isn't 0"
+abbrev pub has_owner : List Made → Channel → Bool
+has_owner past (subchannel n s) = not (eqb (held_by past n s) 0)
+has_owner past (common_part n) = true
+
+unfoldable pub HeldHasOwner : Type 0
+HeldHasOwner =
+    (ca : List ℕ) (c0 bcc ag p : ℕ) (calls : List Call) (x : Channel)
+    → let past = (run (begin (start_of ca c0 bcc ag p).cell) calls).past in is_held past x ≡ has_owner past x
 
 -- ---- who, of any cell
 

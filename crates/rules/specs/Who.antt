@@ -1,7 +1,7 @@
 -- Who is on the air: document 01, "who(TN, ARFCN, FN, direction)". Assumes nothing.
 use Rattle.std.specs.Prelude.{ℕ, Bool, ◌&&◌, cond, List, [], ◌∷◌, ltb, leb, eqb}
 use Rattle.std.proofs.Math.Option.{Option, none, some}
-use Rattle.answers.specs.Outcome.{Outcome, Cause, cause, decide}
+use Rattle.answers.specs.Outcome.{Outcome, refused, accepted, Cause, cause, decide}
 use Rattle.answers.specs.Search.{any_below, least}
 use Rattle.clock.specs.Clock.{hyperframe}
 use Rattle.rules.specs.State.{Cell, LineState, line_count, is_open, line_at}
@@ -35,3 +35,9 @@ match_of c tn arfcn fn direction =
 
 unfoldable pub who_of : Cell → ℕ → ℕ → ℕ → ℕ → Outcome (Option Match)
 who_of c tn arfcn fn direction = decide (who_causes tn arfcn fn direction) (match_of c tn arfcn fn direction)
+
+-- the number of the line, where one is found: its answer is `line`'s
+abbrev pub line_found : Outcome (Option Match) → Outcome (Option ℕ)
+line_found (refused r) = refused r
+line_found (accepted none) = accepted none
+line_found (accepted (some f)) = accepted (some f.line)

@@ -11,7 +11,7 @@ use borrow.Author.Tests.{ltb-true, ltb-false, le-ltb}
 use Rattle.hops.specs.Masks.{bit, ones_below, ones, position_at}
 use Rattle.select.specs.declared.Search.{Search}
 use Rattle.select.specs.Select.{select_of}
-use Rattle.hops.proofs.Bits.{bit_le, ones-shift, position-is, bit-shift}
+use Rattle.hops.proofs.Bits.{bit_le, ones_shift, position_is, bit_shift}
 
 -- ---- one fold
 
@@ -24,8 +24,8 @@ low_halves w zero = 0
 low_halves w (suc n) = low_halves w n * 2 ^ (w + w) + (2 ^ w - 1)
 
 module _ (w : ℕ) where
-  ones-room : 2 ^ w - 1 < 2 ^ (w + w)
-  ones-room = lt_of_lt_of_le (ones_lt w) (pow_mono (omega arith))
+  ones_room : 2 ^ w - 1 < 2 ^ (w + w)
+  ones_room = lt_of_lt_of_le (ones_lt w) (pow_mono (omega arith))
 
   -- the AND with low halves, block by block
   and_low : (n v : ℕ) → bit_and v (low_halves w (suc n)) ≡ bit_and (v / 2 ^ (w + w)) (low_halves w n) * 2 ^ (w + w) + v % 2 ^ w
@@ -34,7 +34,7 @@ module _ (w : ℕ) where
       let k = w + w in
       let r = v % 2 ^ k in
       ap (λ (x : ℕ). bit_and x (low_halves w n * 2 ^ k + (2 ^ w - 1))) (sym (split v k))
-      ∙ (and_block k (v / 2 ^ k) (low_halves w n) r (2 ^ w - 1) (mod-lt v (pow_pos k)) ones-room
+      ∙ (and_block k (v / 2 ^ k) (low_halves w n) r (2 ^ w - 1) (mod-lt v (pow_pos k)) ones_room
       ∙ ap (λ (x : ℕ). bit_and (v / 2 ^ k) (low_halves w n) * 2 ^ k + x) (and_mask r w ∙ mod-mod-pow v w w))
 
   -- a fold, block by block: the lowest block has the sum of the two halves
@@ -48,8 +48,8 @@ module _ (w : ℕ) where
       omega arith
 
   -- the sum of two halves fits the block
-  halves-fit : (v : ℕ) → 0 < w → v % 2 ^ w + v / 2 ^ w % 2 ^ w < 2 ^ (w + w)
-  halves-fit v h =
+  halves_fit : (v : ℕ) → 0 < w → v % 2 ^ w + v / 2 ^ w % 2 ^ w < 2 ^ (w + w)
+  halves_fit v h =
       let a = mod-lt v (pow_pos w) in
       let b = mod-lt (v / 2 ^ w) (pow_pos w) in
       let c : 2 ^ 1 ≤ 2 ^ w = pow_mono h in
@@ -58,11 +58,11 @@ module _ (w : ℕ) where
       omega arith
 
   -- the lowest block of a fold, and the others
-  fold-low : 0 < w → (n v : ℕ) → fold_of v w (low_halves w (suc n)) % 2 ^ (w + w) ≡ v % 2 ^ w + v / 2 ^ w % 2 ^ w
-  fold-low h n v = ap (λ (x : ℕ). x % 2 ^ (w + w)) (fold_step n v) ∙ low (fold_of (v / 2 ^ (w + w)) w (low_halves w n)) (w + w) (halves-fit v h)
+  fold_low : 0 < w → (n v : ℕ) → fold_of v w (low_halves w (suc n)) % 2 ^ (w + w) ≡ v % 2 ^ w + v / 2 ^ w % 2 ^ w
+  fold_low h n v = ap (λ (x : ℕ). x % 2 ^ (w + w)) (fold_step n v) ∙ low (fold_of (v / 2 ^ (w + w)) w (low_halves w n)) (w + w) (halves_fit v h)
 
-  fold-high : 0 < w → (n v : ℕ) → fold_of v w (low_halves w (suc n)) / 2 ^ (w + w) ≡ fold_of (v / 2 ^ (w + w)) w (low_halves w n)
-  fold-high h n v = ap (λ (x : ℕ). x / 2 ^ (w + w)) (fold_step n v) ∙ high (fold_of (v / 2 ^ (w + w)) w (low_halves w n)) (w + w) (halves-fit v h)
+  fold_high : 0 < w → (n v : ℕ) → fold_of v w (low_halves w (suc n)) / 2 ^ (w + w) ≡ fold_of (v / 2 ^ (w + w)) w (low_halves w n)
+  fold_high h n v = ap (λ (x : ℕ). x / 2 ^ (w + w)) (fold_step n v) ∙ high (fold_of (v / 2 ^ (w + w)) w (low_halves w n)) (w + w) (halves_fit v h)
 
   -- what stands in a block j of v: the shift by j blocks, and by one block first
   shift_suc : (v j : ℕ) → v / 2 ^ ((w + w) * suc j) ≡ v / 2 ^ (w + w) / 2 ^ ((w + w) * j)
@@ -72,15 +72,15 @@ module _ (w : ℕ) where
   shift_zero v = ap (λ (k : ℕ). v / 2 ^ k) (mul-zero (w + w)) ∙ div-one v
 
   -- block j of a fold has the sum of the two halves of block j
-  fold-block : 0 < w → (n v j : ℕ) → j < n
+  fold_block : 0 < w → (n v j : ℕ) → j < n
       → fold_of v w (low_halves w n) / 2 ^ ((w + w) * j) % 2 ^ (w + w) ≡ v / 2 ^ ((w + w) * j) % 2 ^ w + v / 2 ^ ((w + w) * j) / 2 ^ w % 2 ^ w
-  fold-block h zero v j l = absurd (not-suc-le-zero l)
-  fold-block h (suc n) v zero l =
+  fold_block h zero v j l = absurd (not-suc-le-zero l)
+  fold_block h (suc n) v zero l =
       ap (λ (x : ℕ). x % 2 ^ (w + w)) (shift_zero (fold_of v w (low_halves w (suc n))))
-      ∙ (fold-low h n v ∙ ap (λ (x : ℕ). x % 2 ^ w + x / 2 ^ w % 2 ^ w) (sym (shift_zero v)))
-  fold-block h (suc n) v (suc j) l =
-      ap (λ (x : ℕ). x % 2 ^ (w + w)) (shift_suc (fold_of v w (low_halves w (suc n))) j ∙ ap (λ (x : ℕ). x / 2 ^ ((w + w) * j)) (fold-high h n v))
-      ∙ (fold-block h n (v / 2 ^ (w + w)) j (le_of_suc-le-suc l) ∙ ap (λ (x : ℕ). x % 2 ^ w + x / 2 ^ w % 2 ^ w) (sym (shift_suc v j)))
+      ∙ (fold_low h n v ∙ ap (λ (x : ℕ). x % 2 ^ w + x / 2 ^ w % 2 ^ w) (sym (shift_zero v)))
+  fold_block h (suc n) v (suc j) l =
+      ap (λ (x : ℕ). x % 2 ^ (w + w)) (shift_suc (fold_of v w (low_halves w (suc n))) j ∙ ap (λ (x : ℕ). x / 2 ^ ((w + w) * j)) (fold_high h n v))
+      ∙ (fold_block h n (v / 2 ^ (w + w)) j (le_of_suc-le-suc l) ∙ ap (λ (x : ℕ). x % 2 ^ w + x / 2 ^ w % 2 ^ w) (sym (shift_suc v j)))
 
 -- ---- counts
 
@@ -89,13 +89,13 @@ pub Counts : ℕ → ℕ → ℕ → ℕ → Type 0
 Counts w n m v = (j : ℕ) → j < n → v / 2 ^ (w * j) % 2 ^ w ≡ ones_below (m / 2 ^ (w * j)) w
 
 -- a mask has the count of each of its bits
-counts-one : (m n : ℕ) → Counts 1 n m m
+counts_one : (m n : ℕ) → Counts 1 n m m
 unfolding Counts ones_below
-counts-one m n j l = omega arith
+counts_one m n j l = omega arith
 
-counts-fold : (w n m v : ℕ) → 0 < w → Counts w (n + n) m v → Counts (w + w) n m (fold_of v w (low_halves w n))
+counts_fold : (w n m v : ℕ) → 0 < w → Counts w (n + n) m v → Counts (w + w) n m (fold_of v w (low_halves w n))
 unfolding Counts
-counts-fold w n m v h f j l =
+counts_fold w n m v h f j l =
     let k = (w + w) * j in
     let lo : v / 2 ^ k % 2 ^ w ≡ ones_below (m / 2 ^ k) w =
     subst (λ (i : ℕ). v / 2 ^ i % 2 ^ w ≡ ones_below (m / 2 ^ i) w) (let e : w * (j + j) ≡ (w + w) * j = omega arith in e) (f (j + j) (omega arith)) in
@@ -103,8 +103,8 @@ counts-fold w n m v h f j l =
     subst (λ (i : ℕ). v / 2 ^ i % 2 ^ w ≡ ones_below (m / 2 ^ i) w) (let e : w * suc (j + j) ≡ (w + w) * j + w = omega arith in e) (f (suc (j + j)) (omega arith)) in
     let hi' : v / 2 ^ k / 2 ^ w % 2 ^ w ≡ ones_below (m / 2 ^ k / 2 ^ w) w =
     ap (λ (x : ℕ). x % 2 ^ w) (shr-shr v k w) ∙ (hi ∙ ap (λ (x : ℕ). ones_below x w) (sym (shr-shr m k w))) in
-    let both = fold-block w h n v j l in
-    let sum = ones-shift (m / 2 ^ k) w w in
+    let both = fold_block w h n v j l in
+    let sum = ones_shift (m / 2 ^ k) w w in
     omega arith
 
 -- ---- the search
@@ -130,7 +130,7 @@ low_count w n m v at b c a reach =
 
 -- the ones of a block: those of its low half, and those of its high half
 both_halves : (w m at : ℕ) → ones_below (m / 2 ^ at) (w + w) ≡ ones_below (m / 2 ^ at) w + ones_below (m / 2 ^ (at + w)) w
-both_halves w m at = ones-shift (m / 2 ^ at) w w ∙ ap (λ (x : ℕ). ones_below (m / 2 ^ at) w + ones_below x w) (shr-shr m at w)
+both_halves w m at = ones_shift (m / 2 ^ at) w w ∙ ap (λ (x : ℕ). ones_below (m / 2 ^ at) w + ones_below x w) (shr-shr m at w)
 
 -- the half of the block at `at` that holds the wanted one, where v has the counts of the first n blocks of w bits
 module _ (w n m i v at left : ℕ) (c : Counts w n m v) (s : Within (w + w) m i at left) (reach : s.block + s.block < n) where
@@ -150,7 +150,7 @@ module _ (w n m i v at left : ℕ) (c : Counts w n m v) (s : Within (w + w) m i 
       let r = s.rank in
       let t = s.holds in
       let e = low_count w n m v at b c a reach in
-      let below = ones-shift m at w in
+      let below = ones_shift m at w in
       let both = both_halves w m at in
       record { block = suc (b + b); aligned = omega arith; inside = omega arith; rank = omega arith; holds = omega arith }
 
@@ -162,8 +162,8 @@ found m i at left s =
     let r = s.rank in
     let t = s.holds in
     let b = bit_le (m / 2 ^ at) 0 in
-    let e : bit m at ≡ bit (m / 2 ^ at) 0 = ap (λ (k : ℕ). bit m k) (sym (add-zero at)) ∙ bit-shift m at 0 in
-    position-is m i at (omega arith) (omega arith) (omega arith)
+    let e : bit m at ≡ bit (m / 2 ^ at) 0 = ap (λ (k : ℕ). bit m k) (sym (add-zero at)) ∙ bit_shift m at 0 in
+    position_is m i at (omega arith) (omega arith) (omega arith)
 
 -- ---- the search where there are too few ones
 
@@ -180,15 +180,15 @@ passed m i h =
 
 -- so has its low half, and the search goes on in the high half
 module _ (w n m v at left : ℕ) (c : Counts w n m v) (s : Past (w + w) m at left) (reach : s.block + s.block < n) where
-  low-passed : v / 2 ^ at % 2 ^ w ≤ left
-  low-passed =
+  low_passed : v / 2 ^ at % 2 ^ w ≤ left
+  low_passed =
       let e = low_count w n m v at s.block c s.aligned reach in
       let both = both_halves w m at in
       let f = s.few in
       omega arith
 
-  high-passed : Past w m (at + w) (left - v / 2 ^ at % 2 ^ w)
-  high-passed =
+  high_passed : Past w m (at + w) (left - v / 2 ^ at % 2 ^ w)
+  high_passed =
       let b = s.block in
       let a = s.aligned in
       let o = s.last in
@@ -233,11 +233,11 @@ within_step m i w n v s c reach x = go (ltb s.left (v / 2 ^ s.at % 2 ^ w)) refl
     go true e = low_half w n m i v s.at s.left c x near (ltb-true _ _ e)
     go false e = high_half w n m i v s.at s.left c x near (ltb-false _ _ e)
 
-past-step : (m : ℕ) → Step m (AtEnd m)
+past_step : (m : ℕ) → Step m (AtEnd m)
 unfolding Step Reach
-past-step m w n v s c reach x =
-    subst (λ (t : Bool). AtEnd m w (cond t s (above v w s))) (sym (le-ltb _ _ (low-passed w n m v s.at s.left c x near)))
-    (high-passed w n m v s.at s.left c x near)
+past_step m w n v s c reach x =
+    subst (λ (t : Bool). AtEnd m w (cond t s (above v w s))) (sym (le-ltb _ _ (low_passed w n m v s.at s.left c x near)))
+    (high_passed w n m v s.at s.left c x near)
   where
     near : x.block + x.block < n
     near = reach x.block (let a = x.aligned in let o = x.last in omega arith)
@@ -270,13 +270,13 @@ pub record Course (m i : ℕ) : Type 0 where
 module _ (m i : ℕ) (c : Course m i) where
   counted : (w n v v' mask : ℕ) → 0 < w → v' ≡ fold_of v w mask → mask ≡ low_halves w n → Counts w (n + n) m v → Counts (w + w) n m v'
   counted w n v v' mask p e q k =
-      subst (λ (x : ℕ). Counts (w + w) n m x) (sym (e ∙ ap (λ (x : ℕ). fold_of v w x) q)) (counts-fold w n m v p k)
+      subst (λ (x : ℕ). Counts (w + w) n m x) (sym (e ∙ ap (λ (x : ℕ). fold_of v w x) q)) (counts_fold w n m v p k)
 
   -- what holds of the whole mask and of each half holds of the last bit
   course : (P : ℕ → Search → Type 0) → Step m P → P 64 (record { at = 0; left = i }) → P 1 c.s1
   unfolding low_halves Step Reach
   course P step x64 =
-      let k1 = counts-one m 64 in
+      let k1 = counts_one m 64 in
       let k2 = counted 1 32 m c.by2 0x5555_5555_5555_5555 (omega arith) c.is2 refl k1 in
       let k4 = counted 2 16 c.by2 c.by4 0x3333_3333_3333_3333 (omega arith) c.is4 refl k2 in
       let k8 = counted 4 8 c.by4 c.by8 0x0f0f_0f0f_0f0f_0f0f (omega arith) c.is8 refl k4 in
@@ -297,4 +297,4 @@ module _ (m i : ℕ) (c : Course m i) where
     where
       go : (t : Bool) → ltb i (ones m) ≡ t → c.s1.at ≡ cond t (position_at m i) 63
       go true e = sym (found m i _ _ (course (InBlock m i) (within_step m i) (whole m i (ltb-true _ _ e))))
-      go false e = let x = (course (AtEnd m) (past-step m) (passed m i (ltb-false _ _ e))).last in omega arith
+      go false e = let x = (course (AtEnd m) (past_step m) (passed m i (ltb-false _ _ e))).last in omega arith

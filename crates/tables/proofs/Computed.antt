@@ -8,14 +8,14 @@ use native.Mathlib.Omega.{arith}
 use lib.Dec.{eqb, ltb}
 use borrow.Author.Tests.{eq-eqb, ne_eqb, eqb-true, ltb-true}
 use Rattle.answers.specs.Search.{all_below}
-use Rattle.answers.proofs.Search.{all-at}
+use Rattle.answers.proofs.Search.{all_at}
 use Rattle.answers.proofs.Tests.{and_left, and_right}
 use Rattle.maps.specs.Channels.{Standing}
 use Rattle.maps.specs.Rows.{Row, numbered, each, from, standing}
 use Rattle.maps.specs.Combinations.{full_rate, half_rate, uncombined, combined, additional, sdcch8, combinations, rows_among, rows_of}
 use Rattle.maps.specs.Numbers.{standing_numbers, bytes}
 use Rattle.tables.specs.Codes.{code_of, control_word, spread_of, traffic_word, sacch_bytes}
-use Rattle.maps.proofs.Repeat.{repeats, standing-mod, all_frames, every-frame}
+use Rattle.maps.proofs.Repeat.{repeats, standing_mod, all_frames, every_frame}
 
 -- the bytes of what stands in a frame
 abbrev bytes_in : List Row → ℕ → ℕ
@@ -32,14 +32,14 @@ traffic_rows x = rows_of (1 + x / 8) (x % 8) 0
 traffic_agrees : ℕ → Bool
 traffic_agrees x = repeats 104 (traffic_rows x) && all_below (λ (f : ℕ). eqb (traffic_at (x / 8) (x % 8) (f % 26) (f / 26 % 4)) (bytes_in (traffic_rows x) f)) 104
 
-traffic-tested : all_below traffic_agrees 16 ≡ true
+traffic_tested : all_below traffic_agrees 16 ≡ true
 unfolding traffic_agrees traffic_at traffic_rows traffic_word sacch_bytes standing_numbers all_below repeats standing combinations rows_among full_rate half_rate numbered from
-traffic-tested = refl
+traffic_tested = refl
 
 -- of the timeslot only the remainder by 8 counts
-same-timeslot : (rate tn h turn : ℕ) → traffic_at rate (tn % 8) h turn ≡ traffic_at rate tn h turn
+same_timeslot : (rate tn h turn : ℕ) → traffic_at rate (tn % 8) h turn ≡ traffic_at rate tn h turn
 unfolding traffic_at sacch_bytes
-same-timeslot rate tn h turn =
+same_timeslot rate tn h turn =
     let a : tn % 8 % 2 ≡ tn % 2 = omega arith in
     let b : tn % 8 % 8 ≡ tn % 8 = omega arith in
     rw (a, b)
@@ -48,17 +48,17 @@ module _ (n : ℕ) where
   same_turn : n % 104 / 26 % 4 ≡ n / 26 % 4
   same_turn = omega arith
 
-  same-h : n % 104 % 26 ≡ n % 26
-  same-h = omega arith
+  same_h : n % 104 % 26 ≡ n % 26
+  same_h = omega arith
 
-  traffic-law : (x : ℕ) → x < 16 → traffic_at (x / 8) (x % 8) (n % 26) (n / 26 % 4) ≡ bytes_in (traffic_rows x) n
+  traffic_law : (x : ℕ) → x < 16 → traffic_at (x / 8) (x % 8) (n % 26) (n / 26 % 4) ≡ bytes_in (traffic_rows x) n
   unfolding traffic_agrees
-  traffic-law x h =
-      let w = all-at traffic_agrees 16 traffic-tested x h in
-      let t : traffic_at (x / 8) (x % 8) (n % 104 % 26) (n % 104 / 26 % 4) ≡ bytes_in (traffic_rows x) (n % 104) = eqb-true _ _ (all-at (λ (f : ℕ). eqb (traffic_at (x / 8) (x % 8) (f % 26) (f / 26 % 4)) (bytes_in (traffic_rows x) f)) 104
+  traffic_law x h =
+      let w = all_at traffic_agrees 16 traffic_tested x h in
+      let t : traffic_at (x / 8) (x % 8) (n % 104 % 26) (n % 104 / 26 % 4) ≡ bytes_in (traffic_rows x) (n % 104) = eqb-true _ _ (all_at (λ (f : ℕ). eqb (traffic_at (x / 8) (x % 8) (f % 26) (f / 26 % 4)) (bytes_in (traffic_rows x) f)) 104
       (and_right (repeats 104 (traffic_rows x)) _ w) (n % 104) (omega arith)) in
-      let e = standing-mod 104 (traffic_rows x) (and_left (repeats 104 (traffic_rows x)) _ w) n in
-      (rw (same-h, same_turn) at t) ∙ ap (λ (xs : List Standing). bytes (standing_numbers xs)) e
+      let e = standing_mod 104 (traffic_rows x) (and_left (repeats 104 (traffic_rows x)) _ w) n in
+      (rw (same_h, same_turn) at t) ∙ ap (λ (xs : List Standing). bytes (standing_numbers xs)) e
 
   module _ (rate tn : ℕ) (h : rate < 2) where
     traffic : traffic_at rate tn (n % 26) (n / 26 % 4) ≡ bytes_in (rows_of (1 + rate) (tn % 8) 0) n
@@ -66,15 +66,15 @@ module _ (n : ℕ) where
     traffic =
         let p : (8 * rate + tn % 8) / 8 ≡ rate = omega arith in
         let q : (8 * rate + tn % 8) % 8 ≡ tn % 8 = omega arith in
-        sym (same-timeslot rate tn (n % 26) (n / 26 % 4)) ∙ (rw (p, q) at (traffic-law (8 * rate + tn % 8) (omega arith)))
+        sym (same_timeslot rate tn (n % 26) (n / 26 % 4)) ∙ (rw (p, q) at (traffic_law (8 * rate + tn % 8) (omega arith)))
 
-    pub traffic-sacch : n % 26 % 13 ≡ 12 → sacch_bytes rate tn (n / 26 % 4) (n % 26 / 13) ≡ bytes_in (rows_of (1 + rate) (tn % 8) 0) n
+    pub traffic_sacch : n % 26 % 13 ≡ 12 → sacch_bytes rate tn (n / 26 % 4) (n % 26 / 13) ≡ bytes_in (rows_of (1 + rate) (tn % 8) 0) n
     unfolding traffic_at
-    traffic-sacch e = simp (eq-eqb _ _ e) at traffic
+    traffic_sacch e = simp (eq-eqb _ _ e) at traffic
 
-    pub traffic-tch : (n % 26 % 13 ≡ 12 → ⊥) → traffic_word (rate * 26 + n % 26) ≡ bytes_in (rows_of (1 + rate) (tn % 8) 0) n
+    pub traffic_tch : (n % 26 % 13 ≡ 12 → ⊥) → traffic_word (rate * 26 + n % 26) ≡ bytes_in (rows_of (1 + rate) (tn % 8) 0) n
     unfolding traffic_at
-    traffic-tch e = simp (ne_eqb _ _ e) at traffic
+    traffic_tch e = simp (ne_eqb _ _ e) at traffic
 
 -- ---- 4 to 7: two directions each
 
@@ -85,9 +85,9 @@ holds_all xs = ltb (code_of xs) 65536 && eqb (spread_of (code_of xs)) (bytes (st
 control_rows : ℕ → List Row
 control_rows x = rows_of (4 + x / 2) 0 (x % 2)
 
-control-tested : all_below (λ (x : ℕ). all_frames holds_all 102 (control_rows x)) 8 ≡ true
+control_tested : all_below (λ (x : ℕ). all_frames holds_all 102 (control_rows x)) 8 ≡ true
 unfolding all_frames holds_all code_of spread_of standing_numbers control_rows all_below repeats standing combinations rows_among uncombined combined additional sdcch8 numbered each from
-control-tested = refl
+control_tested = refl
 
 -- the digits of frame i of a word
 digits : (f : ℕ → ℕ) → ((i : ℕ) → f i < 65536) → (i : ℕ) → i < 4
@@ -104,10 +104,10 @@ module _ (c d : ℕ) (hc : 3 < c) (he : c < 8) (hd : d < 2) where
   tested =
       let p : 4 + (2 * (c - 4) + d) / 2 ≡ c = omega arith in
       let q : (2 * (c - 4) + d) % 2 ≡ d = omega arith in
-      rw (p, q) at (all-at (λ (x : ℕ). all_frames holds_all 102 (control_rows x)) 8 control-tested (2 * (c - 4) + d) (omega arith))
+      rw (p, q) at (all_at (λ (x : ℕ). all_frames holds_all 102 (control_rows x)) 8 control_tested (2 * (c - 4) + d) (omega arith))
 
   held : (fn : ℕ) → holds_all (standing (rows_of c 0 d) fn) ≡ true
-  held fn = every-frame holds_all 102 (rows_of c 0 d) tested fn
+  held fn = every_frame holds_all 102 (rows_of c 0 d) tested fn
 
   repeating : repeats 102 (rows_of c 0 d) ≡ true
   unfolding all_frames
@@ -123,9 +123,9 @@ module _ (c d : ℕ) (hc : 3 < c) (he : c < 8) (hd : d < 2) where
   code_below fn = ltb-true _ _ (and_left (ltb (code_of (standing (rows_of c 0 d) fn)) 65536) _ (held fn))
 
   -- a word has the codes of four frames
-  word-code : (key j i : ℕ) → j < 26 → i < 4 → key ≡ (c % 4 * 2 + d % 2) * 26 + j → control_word key / 2 ^ (i * 16) % 65536 ≡ code (j * 4 + i)
+  word_code : (key j i : ℕ) → j < 26 → i < 4 → key ≡ (c % 4 * 2 + d % 2) * 26 + j → control_word key / 2 ^ (i * 16) % 65536 ≡ code (j * 4 + i)
   unfolding control_word code
-  word-code key j i hj hi e =
+  word_code key j i hj hi e =
       let p : 4 + key / 52 ≡ c = omega (arith, e) in
       let q : key / 26 % 2 ≡ d = omega (arith, e) in
       let r : key % 26 ≡ j = omega (arith, e) in
@@ -137,8 +137,8 @@ module _ (c d : ℕ) (hc : 3 < c) (he : c < 8) (hd : d < 2) where
   control n word key k e =
       let j : n % 102 / 4 * 4 + n % 102 % 4 ≡ n % 102 = omega arith in
       let w : control_word key / 2 ^ (n % 102 % 4 * 16) % 65536 ≡ code (n % 102 / 4 * 4 + n % 102 % 4) =
-      word-code key (n % 102 / 4) (n % 102 % 4) (omega arith) (omega arith) k in
+      word_code key (n % 102 / 4) (n % 102 % 4) (omega arith) (omega arith) k in
       ap (λ (v : ℕ). spread_of (v / 2 ^ (n % 102 % 4 * 16) % 65536)) e
       ∙ (ap spread_of (w ∙ ap code j)
       ∙ (eqb-true _ _ (and_right (ltb (code_of (standing (rows_of c 0 d) (n % 102))) 65536) _ (held (n % 102)))
-      ∙ ap (λ (xs : List Standing). bytes (standing_numbers xs)) (standing-mod 102 (rows_of c 0 d) repeating n)))
+      ∙ ap (λ (xs : List Standing). bytes (standing_numbers xs)) (standing_mod 102 (rows_of c 0 d) repeating n)))

@@ -15,8 +15,8 @@ use Rattle.cell.specs.Leaves.{Untouched, Leaves}
 use Rattle.tdma.specs.Buffers.{Wrote}
 use Rattle.tdma.specs.Cells.{Left, Done}
 
-pub wrote-is : (a : Answer) {bytes : List ℕ} {w : Written} {r : TdmaAnswer} → r ≡ answer_numbers (refusal_in a) → wrote a bytes ≡ w → Wrote r bytes w
-wrote-is a numbers e = (numbers ∙ ap (λ (w : Written). answer_numbers w.refusal) e, ap (λ (w : Written). w.bytes) e)
+pub wrote_is : (a : Answer) {bytes : List ℕ} {w : Written} {r : TdmaAnswer} → r ≡ answer_numbers (refusal_in a) → wrote a bytes ≡ w → Wrote r bytes w
+wrote_is a numbers e = (numbers ∙ ap (λ (w : Written). answer_numbers w.refusal) e, ap (λ (w : Written). w.bytes) e)
 
 -- a start
 pub left_is : (a : Answer) (words : List ℕ) {s : Step} {r : TdmaAnswer} → r ≡ answer_numbers (refusal_in a) → changed a (cell_of words) ≡ s → Left r words s

@@ -1,5 +1,6 @@
 pub mod Lent
 pub mod Numbers
+pub mod Sought
 pub mod ThirdDemand
 pub mod ClockOfC
 pub mod BurstsOfC

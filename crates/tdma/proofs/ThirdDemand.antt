@@ -14,10 +14,10 @@ use Rattle.rules.specs.Calls.{Step, start_of}
 use Rattle.rules.specs.History.{Call, opens, closes, seizes, releases, Made}
 use Rattle.rules.specs.CollisionFree.{CollisionFree, Run, calling, is_accepted, run, ThirdDemand}
 use Rattle.rules.specs.Claims.{Fair}
-use Rattle.rules.proofs.Causes.{open-fair, close-fair, seize-fair, release-fair}
-use Rattle.rules.proofs.CollisionFree.{third-demand}
+use Rattle.rules.proofs.Causes.{open_fair, close_fair, seize_fair, release_fair}
+use Rattle.rules.proofs.CollisionFree.{third_demand}
 use Rattle.c_answers.specs.Numbers.{refusal_number}
-use Rattle.tdma.proofs.Numbers.{caused-above}
+use Rattle.tdma.proofs.Numbers.{caused_above}
 use Rattle.tdma.specs.Cells.{line_numbers}
 use Rattle.tdma.specs.ThirdDemand.{Answered, Promised, made, handed, ThirdDemandOfC, ReachedByC}
 use Rattle.c_answers.specs.declared.TdmaAnswer.{TdmaAnswer}
@@ -31,15 +31,15 @@ module _ (cs : List Cause) (before after : Cell) (s : Step) (ascends : ascending
       go : (o : Option Refused) → s.refusal ≡ o → eqb (refusal_number o) 0 ≡ is_accepted o
       go none e = refl
       go (some r) e =
-          let h = caused-above cs ascends r (fair.caused r e) in
+          let h = caused_above cs ascends r (fair.caused r e) in
           ne_eqb r.number 0 (λ (z : r.number ≡ 0). omega (arith, h, z))
 
-accepted-told : (c : Cell) (x : Call) → eqb (refusal_number (calling c x).refusal) 0 ≡ is_accepted (calling c x).refusal
+accepted_told : (c : Cell) (x : Call) → eqb (refusal_number (calling c x).refusal) 0 ≡ is_accepted (calling c x).refusal
 unfolding ascending_from
-accepted-told c (opens n v) = told _ _ _ _ refl (open-fair c n v)
-accepted-told c (closes n) = told _ _ _ _ refl (close-fair c n)
-accepted-told c (seizes n s o) = told _ _ _ _ refl (seize-fair c n s o)
-accepted-told c (releases n s o) = told _ _ _ _ refl (release-fair c n s o)
+accepted_told c (opens n v) = told _ _ _ _ refl (open_fair c n v)
+accepted_told c (closes n) = told _ _ _ _ refl (close_fair c n)
+accepted_told c (seizes n s o) = told _ _ _ _ refl (seize_fair c n s o)
+accepted_told c (releases n s o) = told _ _ _ _ refl (release_fair c n s o)
 
 -- ---- what C is handed is a run
 
@@ -47,24 +47,24 @@ asked : List Answered → List Call
 asked [] = []
 asked (a ∷ more) = a.call ∷ asked more
 
-is-run : (calls : List Answered) (c : Cell) (words : List ℕ) (past : List Made) → c ≡ cell_of words → Promised words calls
+is_run : (calls : List Answered) (c : Cell) (words : List ℕ) (past : List Made) → c ≡ cell_of words → Promised words calls
     → run (record { cell = c; past = past }) (asked calls) ≡ handed words past calls
 unfolding run asked Promised handed
-is-run [] c words past e p = ap (λ (x : Cell). record { cell = x; past = past }) e
-is-run (a ∷ more) c words past e p =
+is_run [] c words past e p = ap (λ (x : Cell). record { cell = x; past = past }) e
+is_run (a ∷ more) c words past e p =
     ap (λ (m : Made). run (record { cell = (calling c a.call).cell; past = m ∷ past }) (asked more)) same
-    ∙ is-run more (calling c a.call).cell a.words (made a ∷ past) (ap (λ (x : Cell). (calling x a.call).cell) e ∙ sym p.0.0.1) p.1
+    ∙ is_run more (calling c a.call).cell a.words (made a ∷ past) (ap (λ (x : Cell). (calling x a.call).cell) e ∙ sym p.0.0.1) p.1
   where
     same : record { call = a.call; accepted = is_accepted (calling c a.call).refusal } ≡ made a
     same =
         ap (λ (b : Bool). record { call = a.call; accepted = b })
-        (sym (accepted-told c a.call)
+        (sym (accepted_told c a.call)
         ∙ (ap (λ (x : Cell). eqb (refusal_number (calling x a.call).refusal) 0) e
         ∙ ap (λ (r : TdmaAnswer). eqb r.refusal 0) (sym p.0.0.0)))
 
-pub third-demand-of-c : ThirdDemandOfC
+pub third_demand_of_c : ThirdDemandOfC
 unfolding ThirdDemandOfC ThirdDemand
-third-demand-of-c ca c0 bcc ag p answer words e calls promised =
+third_demand_of_c ca c0 bcc ag p answer words e calls promised =
     record { collision_free = free; line = λ n v fn d o hf hd shown q. q ∙ ap line_numbers (free.line n v fn d o hf hd) }
   where
     end : Run
@@ -76,11 +76,11 @@ third-demand-of-c ca c0 bcc ag p answer words e calls promised =
     free : CollisionFree (cell_of words) end.past end.cell
     free =
         subst (λ (f : Cell). CollisionFree f end.past end.cell) (sym e.1)
-        (subst (λ (r : Run). CollisionFree first r.past r.cell) (is-run calls first words [] (sym e.1) promised) (third-demand ca c0 bcc ag p (asked calls)))
+        (subst (λ (r : Run). CollisionFree first r.past r.cell) (is_run calls first words [] (sym e.1) promised) (third_demand ca c0 bcc ag p (asked calls)))
 
-pub reached-by-c : ReachedByC
+pub reached_by_c : ReachedByC
 unfolding ReachedByC
-reached-by-c ca c0 bcc ag p answer words e calls promised =
+reached_by_c ca c0 bcc ag p answer words e calls promised =
     record {
       ca = ca;
       c0 = c0;
@@ -88,5 +88,5 @@ reached-by-c ca c0 bcc ag p answer words e calls promised =
       ag = ag;
       p = p;
       calls = asked calls;
-      handed_back = ap (λ (r : Run). r.cell) (is-run calls (start_of ca c0 bcc ag p).cell words [] (sym e.1) promised);
+      handed_back = ap (λ (r : Run). r.cell) (is_run calls (start_of ca c0 bcc ag p).cell words [] (sym e.1) promised);
     }

@@ -44,9 +44,9 @@ appended_nothing b at start hs = record {
 
 module _ (b text : List ℕ) (start : ℕ) (now : List ℕ) (i v : ℕ) where
   -- a turn of the loop
-  pub put-more : length now ≡ length b → start + i < length b → i < length text → take (start + i) now ≡ take start b ++ take i text → v ≡ get_or text i 0
+  pub put_more : length now ≡ length b → start + i < length b → i < length text → take (start + i) now ≡ take start b ++ take i text → v ≡ get_or text i 0
       → take (start + (i + 1)) (set now (start + i) v) ≡ take start b ++ take (i + 1) text
-  put-more hl h ht e ev =
+  put_more hl h ht e ev =
       let e' : start + (i + 1) ≡ suc (start + i) = omega arith in
       ap (λ (k : ℕ). take k (set now (start + i) v)) e'
       ∙ take-suc-set now (start + i) v (omega (arith, hl, h))
@@ -65,20 +65,20 @@ put_all b text now at start n i hs hn hi hl e = record {
 
 -- ---- numbers with a space before each
 
-spaced-append : (ns ms : List ℕ) → spaced (ns ++ ms) ≡ spaced ns ++ spaced ms
+spaced_append : (ns ms : List ℕ) → spaced (ns ++ ms) ≡ spaced ns ++ spaced ms
 unfolding spaced
-spaced-append [] ms = refl
-spaced-append (n ∷ ns) ms = ap (λ (s : List ℕ). (32 ∷ decimal n) ++ s) (spaced-append ns ms) ∙ sym (append_assoc (32 ∷ decimal n) (spaced ns) (spaced ms))
+spaced_append [] ms = refl
+spaced_append (n ∷ ns) ms = ap (λ (s : List ℕ). (32 ∷ decimal n) ++ s) (spaced_append ns ms) ∙ sym (append_assoc (32 ∷ decimal n) (spaced ns) (spaced ms))
 
-spaced-one : (n : ℕ) → spaced (n ∷ []) ≡ (32 ∷ []) ++ decimal n
+spaced_one : (n : ℕ) → spaced (n ∷ []) ≡ (32 ∷ []) ++ decimal n
 unfolding spaced
-spaced-one n = append-nil (32 ∷ decimal n)
+spaced_one n = append-nil (32 ∷ decimal n)
 
-pub spaced-more : (l : List ℕ) (i n : ℕ) → i < length l → n ≡ get_or l i 0 → spaced (take i l) ++ (32 ∷ []) ++ decimal n ≡ spaced (take (i + 1) l)
-spaced-more l i n h e =
+pub spaced_more : (l : List ℕ) (i n : ℕ) → i < length l → n ≡ get_or l i 0 → spaced (take i l) ++ (32 ∷ []) ++ decimal n ≡ spaced (take (i + 1) l)
+spaced_more l i n h e =
     append_assoc (spaced (take i l)) (32 ∷ []) (decimal n)
-    ∙ ap (λ (s : List ℕ). spaced (take i l) ++ s) (sym (spaced-one n))
-    ∙ sym (spaced-append (take i l) (n ∷ []))
+    ∙ ap (λ (s : List ℕ). spaced (take i l) ++ s) (sym (spaced_one n))
+    ∙ sym (spaced_append (take i l) (n ∷ []))
     ∙ ap (λ (m : ℕ). spaced (take i l ++ (m ∷ []))) e
     ∙ ap spaced (sym (rw (add-one i) (take-suc l i 0 h)))
 

@@ -10,7 +10,7 @@ use lib.ListN.{length, take, replicate}
 use borrow.Author.Tests.{lt-ltb, leb-true, leb-false}
 use Rattle.io.specs.Digits.{last_digits, hex_digit_ascii, IsDigitCount}
 use Rattle.wording.specs.Print.{decimal, decimal_within, left, right}
-use Rattle.wording.proofs.Digits.{one-digit, more-digits}
+use Rattle.wording.proofs.Digits.{one_digit, more_digits}
 
 last : (n : ℕ) → hex_digit_ascii (n % 10) ≡ 48 + n % 10
 last n = ap (λ (t : Bool). cond t (48 + n % 10) (87 + n % 10)) (lt-ltb (n % 10) 10 (omega arith))
@@ -19,15 +19,15 @@ power : (k : ℕ) → 10 ≤ 10 ^ suc k
 power zero = omega arith
 power (suc k) = let e : 10 ^ suc (suc k) ≡ 10 ^ suc k * 10 = pow-suc 10 (suc k) in omega (arith, e, power k)
 
-pub decimal-digits : (k f n : ℕ) → k ≤ f → IsDigitCount 10 1 n k → last_digits 10 k n ≡ decimal_within f n
-decimal-digits zero f n h few = absurd (omega (arith, few.0))
-decimal-digits (suc zero) zero n h few = absurd (omega (arith, h))
-decimal-digits (suc zero) (suc f) n h few =
+pub decimal_digits : (k f n : ℕ) → k ≤ f → IsDigitCount 10 1 n k → last_digits 10 k n ≡ decimal_within f n
+decimal_digits zero f n h few = absurd (omega (arith, few.0))
+decimal_digits (suc zero) zero n h few = absurd (omega (arith, h))
+decimal_digits (suc zero) (suc f) n h few =
     let small : n < 10 = few.1 in
     let whole : n % 10 ≡ n = omega (arith, small) in
-    ap (λ (d : ℕ). d ∷ []) (last n ∙ ap (λ (d : ℕ). 48 + d) whole) ∙ sym (one-digit f n small)
-decimal-digits (suc (suc k)) zero n h few = absurd (omega (arith, h))
-decimal-digits (suc (suc k)) (suc f) n h few =
+    ap (λ (d : ℕ). d ∷ []) (last n ∙ ap (λ (d : ℕ). 48 + d) whole) ∙ sym (one_digit f n small)
+decimal_digits (suc (suc k)) zero n h few = absurd (omega (arith, h))
+decimal_digits (suc (suc k)) (suc f) n h few =
     let e : 10 ^ suc (suc k) ≡ 10 ^ suc k * 10 = pow-suc 10 (suc k) in
     let above : n < 10 ^ suc (suc k) = few.1 in
     let less : suc (suc k) - 1 ≡ suc k = omega arith in
@@ -35,13 +35,13 @@ decimal-digits (suc (suc k)) (suc f) n h few =
     let e' : 10 ^ suc k ≡ 10 ^ k * 10 = pow-suc 10 k in
     let less' : k ≡ suc k - 1 = omega arith in
     let rest : IsDigitCount 10 1 (n / 10) (suc k) = (omega arith, omega (arith, e, above), λ _. subst (λ (j : ℕ). 10 ^ j ≤ n / 10) less' (omega (arith, e', below))) in
-    ap (λ (s : List ℕ). s ++ (hex_digit_ascii (n % 10) ∷ [])) (decimal-digits (suc k) f (n / 10) (omega (arith, h)) rest)
+    ap (λ (s : List ℕ). s ++ (hex_digit_ascii (n % 10) ∷ [])) (decimal_digits (suc k) f (n / 10) (omega (arith, h)) rest)
     ∙ ap (λ (d : ℕ). decimal_within f (n / 10) ++ (d ∷ [])) (last n)
-    ∙ sym (more-digits f n (omega (arith, below, power k)))
+    ∙ sym (more_digits f n (omega (arith, below, power k)))
 
 -- a number of 64 bits has at most 20 digits
-few-digits : (n k : ℕ) → n < 2 ^ 64 → IsDigitCount 10 1 n k → k ≤ 20
-few-digits n k h few = go (leb k 20) refl
+few_digits : (n k : ℕ) → n < 2 ^ 64 → IsDigitCount 10 1 n k → k ≤ 20
+few_digits n k h few = go (leb k 20) refl
   where
     go : (t : Bool) → leb k 20 ≡ t → k ≤ 20
     go true e = leb-true k 20 e
@@ -51,8 +51,8 @@ few-digits n k h few = go (leb k 20) refl
         absurd (omega (arith, few.2 (omega (arith, many)), large, h))
 
 -- as `io::decimal` leaves them
-pub decimal-in : (text : List ℕ) (k n : ℕ) → n < 2 ^ 64 → IsDigitCount 10 1 n k → take k text ≡ last_digits 10 k n → take k text ≡ decimal n
-decimal-in text k n h few e = e ∙ decimal-digits k 20 n (few-digits n k h few) few
+pub decimal_in : (text : List ℕ) (k n : ℕ) → n < 2 ^ 64 → IsDigitCount 10 1 n k → take k text ≡ last_digits 10 k n → take k text ≡ decimal n
+decimal_in text k n h few e = e ∙ decimal_digits k 20 n (few_digits n k h few) few
 
 -- digits with spaces after them, or before them, up to a width
 module _ (width n k lack : ℕ) (text : List ℕ) (e : take k text ≡ decimal n) (long : k ≡ length (take k text)) (room : lack ≡ width - k) where

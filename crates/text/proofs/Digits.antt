@@ -13,7 +13,7 @@ use borrow.Author.Tests.{le-ltb, ne_eqb}
 use Rattle.wording.specs.declared.Numeral.{Numeral}
 use Rattle.wording.specs.declared.Numeral.TheVariants.{Value, NotDigits, TooLarge}
 use Rattle.wording.specs.Numbers.{is_digit, all_digits, is_number, value_from, within, number_of, Taken, took, wrong, with_number, numbers_after, list_after}
-use Rattle.wording.proofs.Digits.{some-digits}
+use Rattle.wording.proofs.Digits.{some_digits}
 use Rattle.text.specs.declared.numbers.Values.{Values}
 use Rattle.wording.specs.Words.{words_of}
 use Rattle.text.specs.Numbers.{numbers_in}
@@ -31,27 +31,27 @@ none [] h = refl
 none (c ∷ w) h = absurd (omega (arith, h))
 
 module _ (w : List ℕ) where
-  pub first-digits : 0 < length w → all_digits (drop 0 w) ≡ is_number w
-  first-digits h = sym (some-digits w h)
+  pub first_digits : 0 < length w → all_digits (drop 0 w) ≡ is_number w
+  first_digits h = sym (some_digits w h)
 
   module _ (i : ℕ) where
     pub digits_more : i < length w → is_digit (get_or w i 0) ≡ true → all_digits (drop i w) ≡ all_digits (drop (i + 1) w)
     digits_more h e = rw (add-one i, drop-cons w i 0 h) (digits_step _ _ true e)
 
-    pub digits-stop : i < length w → is_digit (get_or w i 0) ≡ false → all_digits (drop i w) ≡ false
-    digits-stop h e = rw (drop-cons w i 0 h) (digits_step _ _ false e)
+    pub digits_stop : i < length w → is_digit (get_or w i 0) ≡ false → all_digits (drop i w) ≡ false
+    digits_stop h e = rw (drop-cons w i 0 h) (digits_step _ _ false e)
 
-    pub digits-end : length w ≤ i → all_digits (drop i w) ≡ true
+    pub digits_end : length w ≤ i → all_digits (drop i w) ≡ true
     unfolding all_digits
-    digits-end h = ap all_digits (drop_of_length-le w {i = i} h)
+    digits_end h = ap all_digits (drop_of_length-le w {i = i} h)
 
-    pub value-more : (n : ℕ) → i < length w → value_from n (drop i w) ≡ value_from (10 * n + (get_or w i 0 - 48)) (drop (i + 1) w)
+    pub value_more : (n : ℕ) → i < length w → value_from n (drop i w) ≡ value_from (10 * n + (get_or w i 0 - 48)) (drop (i + 1) w)
     unfolding value_from
-    value-more n h = rw (add-one i, drop-cons w i 0 h) refl
+    value_more n h = rw (add-one i, drop-cons w i 0 h) refl
 
-    pub value-end : (n : ℕ) → length w ≤ i → value_from n (drop i w) ≡ n
+    pub value_end : (n : ℕ) → length w ≤ i → value_from n (drop i w) ≡ n
     unfolding value_from
-    value-end n h = ap (value_from n) (drop_of_length-le w {i = i} h)
+    value_end n h = ap (value_from n) (drop_of_length-le w {i = i} h)
 
 -- more digits make no smaller number
 value_grows : (w : List ℕ) (n : ℕ) → n ≤ value_from n w
@@ -59,14 +59,14 @@ unfolding value_from
 value_grows [] n = le_refl n
 value_grows (c ∷ w) n = le_trans (omega arith) (value_grows w (10 * n + (c - 48)))
 
-pub is-too-large : (n m : ℕ) (w : List ℕ) → m ≡ value_from n w → 2 ^ 64 ≤ n → within m ≡ TooLarge
+pub is_too_large : (n m : ℕ) (w : List ℕ) → m ≡ value_from n w → 2 ^ 64 ≤ n → within m ≡ TooLarge
 unfolding within
-is-too-large n m w e h =
+is_too_large n m w e h =
     ap (λ (t : Bool). cond t (Value m) TooLarge) (le-ltb m (2 ^ 64) (le_trans h (rw e (value_grows w n))))
 
-pub number-none : (w : List ℕ) → is_number w ≡ false → number_of w ≡ NotDigits
+pub number_none : (w : List ℕ) → is_number w ≡ false → number_of w ≡ NotDigits
 unfolding number_of
-number-none w e = ap (λ (t : Bool). cond t (within (value_from 0 w)) NotDigits) e
+number_none w e = ap (λ (t : Bool). cond t (within (value_from 0 w)) NotDigits) e
 
 -- ---- numbers in a row
 
@@ -82,13 +82,13 @@ module _ (ns : List ℕ) (k : ℕ) (ws : List (List ℕ)) where
   unfolding numbers_after
   numbers_more w rest n e v = rw e (ap (λ (m : Numeral). with_number m (λ n. numbers_after (ns ++ (n ∷ [])) k rest)) v)
 
-  pub numbers-few : ws ≡ [] → numbers_after ns (suc k) ws ≡ wrong 3
+  pub numbers_few : ws ≡ [] → numbers_after ns (suc k) ws ≡ wrong 3
   unfolding numbers_after
-  numbers-few e = rw e refl
+  numbers_few e = rw e refl
 
-  pub numbers-wrong : (w : List ℕ) (rest : List (List ℕ)) (r : ℕ) → ws ≡ w ∷ rest → reason_of (number_of w) ≡ r → 0 < r → numbers_after ns (suc k) ws ≡ wrong r
+  pub numbers_wrong : (w : List ℕ) (rest : List (List ℕ)) (r : ℕ) → ws ≡ w ∷ rest → reason_of (number_of w) ≡ r → 0 < r → numbers_after ns (suc k) ws ≡ wrong r
   unfolding numbers_after
-  numbers-wrong w rest r e v h = rw e (with_none (number_of w) _ (rw v h) ∙ ap wrong v)
+  numbers_wrong w rest r e v h = rw e (with_none (number_of w) _ (rw v h) ∙ ap wrong v)
 
 -- a turn of the loop over m numbers, and its ends: what was taken, and what is still wanted of the words ws
 module _ (m i : ℕ) (values : List ℕ) (ws : List (List ℕ)) (whole : Taken) (inv : numbers_after (take i values) (m - i) ws ≡ whole) where
@@ -101,51 +101,51 @@ module _ (m i : ℕ) (values : List ℕ) (ws : List (List ℕ)) (whole : Taken) 
       ∙ ap (λ (k : ℕ). numbers_after (take i values) k ws) (sym left)
       ∙ inv
 
-  pub row-few : i < m → ws ≡ [] → wrong 3 ≡ whole
-  row-few h e =
+  pub row_few : i < m → ws ≡ [] → wrong 3 ≡ whole
+  row_few h e =
       let left : m - i ≡ suc (m - (i + 1)) = omega (arith, h) in
-      sym (numbers-few (take i values) (m - (i + 1)) ws e) ∙ ap (λ (k : ℕ). numbers_after (take i values) k ws) (sym left) ∙ inv
+      sym (numbers_few (take i values) (m - (i + 1)) ws e) ∙ ap (λ (k : ℕ). numbers_after (take i values) k ws) (sym left) ∙ inv
 
-  pub row-wrong : (w : List ℕ) (rest : List (List ℕ)) (r : ℕ) → i < m → ws ≡ w ∷ rest → reason_of (number_of w) ≡ r → 0 < r → wrong r ≡ whole
-  row-wrong w rest r h e v p =
+  pub row_wrong : (w : List ℕ) (rest : List (List ℕ)) (r : ℕ) → i < m → ws ≡ w ∷ rest → reason_of (number_of w) ≡ r → 0 < r → wrong r ≡ whole
+  row_wrong w rest r h e v p =
       let left : m - i ≡ suc (m - (i + 1)) = omega (arith, h) in
-      sym (numbers-wrong (take i values) (m - (i + 1)) ws w rest r e v p) ∙ ap (λ (k : ℕ). numbers_after (take i values) k ws) (sym left) ∙ inv
+      sym (numbers_wrong (take i values) (m - (i + 1)) ws w rest r e v p) ∙ ap (λ (k : ℕ). numbers_after (take i values) k ws) (sym left) ∙ inv
 
-  pub row-end : m ≤ i → i ≤ m → took (take m values) ws ≡ whole
+  pub row_end : m ≤ i → i ≤ m → took (take m values) ws ≡ whole
   unfolding numbers_after
-  row-end h l =
+  row_end h l =
       let left : m - i ≡ 0 = omega (arith, h) in
       let all : m ≡ i = omega (arith, h, l) in
       ap (λ (k : ℕ). took (take k values) ws) all ∙ ap (λ (k : ℕ). numbers_after (take i values) k ws) (sym left) ∙ inv
 
-pub wrong-in : (k : ℕ) (line : List ℕ) (r : Values) (n : ℕ) → r.reason ≡ n → 0 < n → numbers_in k line r ≡ wrong n
-wrong-in k line r n e h =
+pub wrong_in : (k : ℕ) (line : List ℕ) (r : Values) (n : ℕ) → r.reason ≡ n → 0 < n → numbers_in k line r ≡ wrong n
+wrong_in k line r n e h =
     ap (λ (t : Bool). cond t (took (take k r.values) (words_of (drop r.end line))) (wrong r.reason)) (ne_eqb r.reason 0 (λ z. absurd (omega (arith, e, h, z))))
     ∙ ap wrong e
 
 -- ---- a list of numbers to the line's end
 
-list-nothing : (ns : List ℕ) (room : ℕ) → list_after ns room [] ≡ took ns []
+list_nothing : (ns : List ℕ) (room : ℕ) → list_after ns room [] ≡ took ns []
 unfolding list_after
-list-nothing ns zero = refl
-list-nothing ns (suc room) = refl
+list_nothing ns zero = refl
+list_nothing ns (suc room) = refl
 
 module _ (ns : List ℕ) (room : ℕ) (ws : List (List ℕ)) where
   pub list_done : ws ≡ [] → took ns [] ≡ list_after ns room ws
-  list_done e = sym (ap (list_after ns room) e ∙ list-nothing ns room)
+  list_done e = sym (ap (list_after ns room) e ∙ list_nothing ns room)
 
   pub list_full : (w : List ℕ) (rest : List (List ℕ)) → ws ≡ w ∷ rest → wrong 4 ≡ list_after ns 0 ws
   unfolding list_after
   list_full w rest e = rw e refl
 
-  pub list-more : (w : List ℕ) (rest : List (List ℕ)) (n : ℕ) → ws ≡ w ∷ rest → number_of w ≡ Value n
+  pub list_more : (w : List ℕ) (rest : List (List ℕ)) (n : ℕ) → ws ≡ w ∷ rest → number_of w ≡ Value n
       → list_after ns (suc room) ws ≡ list_after (ns ++ (min n 65535 ∷ [])) room rest
   unfolding list_after
-  list-more w rest n e v = rw e (ap (λ (m : Numeral). with_number m (λ n. list_after (ns ++ (min n 65535 ∷ [])) room rest)) v)
+  list_more w rest n e v = rw e (ap (λ (m : Numeral). with_number m (λ n. list_after (ns ++ (min n 65535 ∷ [])) room rest)) v)
 
-  pub list-wrong : (w : List ℕ) (rest : List (List ℕ)) (r : ℕ) → ws ≡ w ∷ rest → reason_of (number_of w) ≡ r → 0 < r → list_after ns (suc room) ws ≡ wrong r
+  pub list_wrong : (w : List ℕ) (rest : List (List ℕ)) (r : ℕ) → ws ≡ w ∷ rest → reason_of (number_of w) ≡ r → 0 < r → list_after ns (suc room) ws ≡ wrong r
   unfolding list_after
-  list-wrong w rest r e v h = rw e (with_none (number_of w) _ (rw v h) ∙ ap wrong v)
+  list_wrong w rest r e v h = rw e (with_none (number_of w) _ (rw v h) ∙ ap wrong v)
 
 -- a turn of the loop over a list with room for so many, and its ends
 module _ (size i : ℕ) (out : List ℕ) (ws : List (List ℕ)) (whole : Taken) (inv : list_after (take i out) (size - i) ws ≡ whole) where
@@ -155,17 +155,17 @@ module _ (size i : ℕ) (out : List ℕ) (ws : List (List ℕ)) (whole : Taken) 
       let left : size - i ≡ suc (size - (i + 1)) = omega (arith, h) in
       ap (λ (ns : List ℕ). list_after ns (size - (i + 1)) rest) (rw (add-one i) (take-suc-set out i v l))
       ∙ ap (λ (m : ℕ). list_after (take i out ++ (m ∷ [])) (size - (i + 1)) rest) ev
-      ∙ sym (list-more (take i out) (size - (i + 1)) ws w rest n e q)
+      ∙ sym (list_more (take i out) (size - (i + 1)) ws w rest n e q)
       ∙ ap (λ (k : ℕ). list_after (take i out) k ws) (sym left)
       ∙ inv
 
-  pub entry-none : ws ≡ [] → took (take i out) [] ≡ whole
-  entry-none e = list_done (take i out) (size - i) ws e ∙ inv
+  pub entry_none : ws ≡ [] → took (take i out) [] ≡ whole
+  entry_none e = list_done (take i out) (size - i) ws e ∙ inv
 
-  pub entry-wrong : (w : List ℕ) (rest : List (List ℕ)) (r : ℕ) → i < size → ws ≡ w ∷ rest → reason_of (number_of w) ≡ r → 0 < r → wrong r ≡ whole
-  entry-wrong w rest r h e v p =
+  pub entry_wrong : (w : List ℕ) (rest : List (List ℕ)) (r : ℕ) → i < size → ws ≡ w ∷ rest → reason_of (number_of w) ≡ r → 0 < r → wrong r ≡ whole
+  entry_wrong w rest r h e v p =
       let left : size - i ≡ suc (size - (i + 1)) = omega (arith, h) in
-      sym (list-wrong (take i out) (size - (i + 1)) ws w rest r e v p) ∙ ap (λ (k : ℕ). list_after (take i out) k ws) (sym left) ∙ inv
+      sym (list_wrong (take i out) (size - (i + 1)) ws w rest r e v p) ∙ ap (λ (k : ℕ). list_after (take i out) k ws) (sym left) ∙ inv
 
-pub wrong-list : (out : List ℕ) (n : ℕ) (t u : Taken) → 0 < n → cond (eqb n 0) t u ≡ u
-wrong-list out n t u h = ap (λ (b : Bool). cond b t u) (ne_eqb n 0 (λ z. absurd (omega (arith, h, z))))
+pub wrong_list : (out : List ℕ) (n : ℕ) (t u : Taken) → 0 < n → cond (eqb n 0) t u ≡ u
+wrong_list out n t u h = ap (λ (b : Bool). cond b t u) (ne_eqb n 0 (λ z. absurd (omega (arith, h, z))))

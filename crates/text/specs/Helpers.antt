@@ -16,11 +16,11 @@ reason_of NotDigits = 5
 reason_of TooLarge = 6
 
 -- what is told of the first word from a place on, as a number
-abbrev pub Ahead-number : List ℕ → ℕ → Took → Type 0
-Ahead-number line from (Number n end) =
+abbrev pub AheadNumber : List ℕ → ℕ → Took → Type 0
+AheadNumber line from (Number n end) =
     (from < end) × (end ≤ length line) × ((w : List ℕ) × (words_of (drop from line) ≡ w ∷ words_of (drop end line)) × (number_of w ≡ Value n))
-Ahead-number line from End = words_of (drop from line) ≡ []
-Ahead-number line from (Wrong r) = (w : List ℕ) × ((ws : List (List ℕ)) × (words_of (drop from line) ≡ w ∷ ws) × (reason_of (number_of w) ≡ r) × (0 < r))
+AheadNumber line from End = words_of (drop from line) ≡ []
+AheadNumber line from (Wrong r) = (w : List ℕ) × ((ws : List (List ℕ)) × (words_of (drop from line) ≡ w ∷ ws) × (reason_of (number_of w) ≡ r) × (0 < r))
 
 -- what is told of a list's end
 abbrev pub Ends : List ℕ → ℕ → ℕ → Listed → Type 0

@@ -3,7 +3,7 @@ ghost use Rattle.std.specs.Prelude.{◌-◌, ◌≤◌, min, ◌≡◌, map, len
 ghost use Rattle.wording.specs.Words.{words_of};
 ghost use Rattle.wording.specs.Numbers.{is_digit, is_number, value_from, within, number_of, numbers_of, only_of, list_of, parameter, figure};
 ghost use Rattle.text.specs.Numbers.{numbers_in, list_in};
-ghost use Rattle.text.specs.Helpers.{Ahead-number, Ends};
+ghost use Rattle.text.specs.Helpers.{AheadNumber, Ends};
 
 use crate::least;
 use crate::words::{Next, next_word};
@@ -98,7 +98,7 @@ enum Took {
 
 // The number that the first word at or after `from` is.
 fn number_at(line: &[u8], from: usize) -> Took
-    ensures { Ahead-number line.now from result }
+    ensures { AheadNumber line.now from result }
 {
     match next_word(line, from) {
         Next::Nothing => Took::End,

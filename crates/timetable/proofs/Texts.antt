@@ -19,9 +19,9 @@ unfolding direction_text
 uplink d h = second _ _ (ne_eqb d 0 h)
 
 module _ (channel subchannel owner : ℕ) where
-  pub common-part : 3 < channel → holder_text channel subchannel owner ≡ ascii "-     -"
+  pub common_part : 3 < channel → holder_text channel subchannel owner ≡ ascii "-     -"
   unfolding holder_text
-  common-part h = first _ _ (lt-ltb 3 channel h)
+  common_part h = first _ _ (lt-ltb 3 channel h)
 
   pub free : channel ≤ 3 → owner ≡ 0 → holder_text channel subchannel owner ≡ decimal subchannel ++ ascii "  free"
   unfolding holder_text
@@ -32,14 +32,14 @@ module _ (channel subchannel owner : ℕ) where
   held h o = second _ _ (le-ltb 3 channel h) ∙ second _ _ (ne_eqb owner 0 o)
 
 module _ (a : TdmaLine) where
-  pub idle-cell : a.channel ≡ 0 → cell_text a ≡ right 6 (decimal a.arfcn) ++ ascii " " ++ ascii "idle                    |"
+  pub idle_cell : a.channel ≡ 0 → cell_text a ≡ right 6 (decimal a.arfcn) ++ ascii " " ++ ascii "idle                    |"
   unfolding cell_text
-  idle-cell h = first _ _ (eq-eqb a.channel 0 h)
+  idle_cell h = first _ _ (eq-eqb a.channel 0 h)
 
-  pub cell-one-block : a.channel ≢ 0 → a.blocks ≢ 2 → cell_text a ≡ shown_text a ++ ascii "      |"
+  pub cell_one_block : a.channel ≢ 0 → a.blocks ≢ 2 → cell_text a ≡ shown_text a ++ ascii "      |"
   unfolding cell_text
-  cell-one-block h b = second _ _ (ne_eqb a.channel 0 h) ∙ second _ _ (ne_eqb a.blocks 2 b)
+  cell_one_block h b = second _ _ (ne_eqb a.channel 0 h) ∙ second _ _ (ne_eqb a.blocks 2 b)
 
-  pub cell-two-blocks : a.channel ≢ 0 → a.blocks ≡ 2 → cell_text a ≡ shown_text a ++ block_text a.block2 a.place2 ++ ascii " |"
+  pub cell_two_blocks : a.channel ≢ 0 → a.blocks ≡ 2 → cell_text a ≡ shown_text a ++ block_text a.block2 a.place2 ++ ascii " |"
   unfolding cell_text
-  cell-two-blocks h b = second _ _ (ne_eqb a.channel 0 h) ∙ first _ _ (eq-eqb a.blocks 2 b)
+  cell_two_blocks h b = second _ _ (ne_eqb a.channel 0 h) ∙ first _ _ (eq-eqb a.blocks 2 b)

@@ -12,25 +12,25 @@ use Rattle.wording.specs.Print.{decimal_within}
 
 -- ---- a word's
 
-pub some-digits : (w : List ℕ) → 0 < length w → is_number w ≡ all_digits w
+pub some_digits : (w : List ℕ) → 0 < length w → is_number w ≡ all_digits w
 unfolding is_number
-some-digits [] h = absurd (omega (arith, h))
-some-digits (c ∷ w) h = refl
+some_digits [] h = absurd (omega (arith, h))
+some_digits (c ∷ w) h = refl
 
-pub is-value : (n m : ℕ) → m ≡ n → n < 2 ^ 64 → within m ≡ Value n
+pub is_value : (n m : ℕ) → m ≡ n → n < 2 ^ 64 → within m ≡ Value n
 unfolding within
-is-value n m e h = rw e (ap (λ (t : Bool). cond t (Value n) TooLarge) (lt-ltb n (2 ^ 64) h))
+is_value n m e h = rw e (ap (λ (t : Bool). cond t (Value n) TooLarge) (lt-ltb n (2 ^ 64) h))
 
-pub number-value : (w : List ℕ) → is_number w ≡ true → number_of w ≡ within (value_from 0 w)
+pub number_value : (w : List ℕ) → is_number w ≡ true → number_of w ≡ within (value_from 0 w)
 unfolding number_of
-number-value w e = ap (λ (t : Bool). cond t (within (value_from 0 w)) NotDigits) e
+number_value w e = ap (λ (t : Bool). cond t (within (value_from 0 w)) NotDigits) e
 
 -- ---- a number's
 
-pub one-digit : (f n : ℕ) → n < 10 → decimal_within (suc f) n ≡ (48 + n) ∷ []
+pub one_digit : (f n : ℕ) → n < 10 → decimal_within (suc f) n ≡ (48 + n) ∷ []
 unfolding decimal_within
-one-digit f n h = ap (λ (t : Bool). cond t ((48 + n) ∷ []) (decimal_within f (n / 10) ++ ((48 + n % 10) ∷ []))) (lt-ltb n 10 h)
+one_digit f n h = ap (λ (t : Bool). cond t ((48 + n) ∷ []) (decimal_within f (n / 10) ++ ((48 + n % 10) ∷ []))) (lt-ltb n 10 h)
 
-pub more-digits : (f n : ℕ) → 10 ≤ n → decimal_within (suc f) n ≡ decimal_within f (n / 10) ++ ((48 + n % 10) ∷ [])
+pub more_digits : (f n : ℕ) → 10 ≤ n → decimal_within (suc f) n ≡ decimal_within f (n / 10) ++ ((48 + n % 10) ∷ [])
 unfolding decimal_within
-more-digits f n h = ap (λ (t : Bool). cond t ((48 + n) ∷ []) (decimal_within f (n / 10) ++ ((48 + n % 10) ∷ []))) (le-ltb n 10 h)
+more_digits f n h = ap (λ (t : Bool). cond t ((48 + n) ∷ []) (decimal_within f (n / 10) ++ ((48 + n % 10) ∷ []))) (le-ltb n 10 h)

@@ -12,9 +12,9 @@ use Rattle.c_answers.proofs.answer_numbers.Goals as goal
 numbers : Answer → TdmaAnswer
 numbers a = answer_numbers (refusal_in a)
 
-refused-numbers : (e : Refusal) {n v : ℕ} → n ≡ (refusal_of e).number → v ≡ value_of (refusal_of e) → record { refusal = n; value = v } ≡ numbers (Refused e)
+refused_numbers : (e : Refusal) {n v : ℕ} → n ≡ (refusal_of e).number → v ≡ value_of (refusal_of e) → record { refusal = n; value = v } ≡ numbers (Refused e)
 unfolding numbers
-refused-numbers e p q = rw (p, q) refl
+refused_numbers e p q = rw (p, q) refl
 
 pub returns-in-Accepted : goal.returns-in-Accepted
 unfolding numbers
@@ -22,4 +22,4 @@ returns-in-Accepted c = ap numbers (sym c.in-Accepted.is)
 
 pub returns-in-Refused : goal.returns-in-Refused
 unfolding numbers
-returns-in-Refused c = refused-numbers _ c.refusal_number.ensures c.refusal_value.ensures ∙ ap numbers (sym c.in-Refused.is)
+returns-in-Refused c = refused_numbers _ c.refusal_number.ensures c.refusal_value.ensures ∙ ap numbers (sym c.in-Refused.is)

@@ -9,8 +9,8 @@ use lib.ListN.{length}
 use borrow.Author.Rules.{rules}
 use borrow.Author.Tests.{lt-ltb, le-ltb, le-leb, lt-leb}
 use Rattle.answers.specs.Search.{all_below}
-use Rattle.answers.proofs.Search.{all_of, all-at}
-use Rattle.answers.proofs.Tests.{and_both, and-false-right, refute, not-both}
+use Rattle.answers.proofs.Search.{all_of, all_at}
+use Rattle.answers.proofs.Tests.{and_both, and_false_right, refute, not_both}
 use Rattle.hops.specs.Allocation.{in_place, is_allocation}
 use Rattle.cell_allocation.proofs.is_allocation.Goals as goal
 
@@ -22,12 +22,12 @@ module _ (ca : List ℕ) where
   too_long : 64 < length ca → false ≡ is_allocation ca
   unfolding is_allocation
   too_long h =
-      sym (ap (λ (t : Bool). t && all_below (in_place ca) (length ca)) (and-false-right (ltb 0 (length ca)) (lt-leb (length ca) 64 h)))
+      sym (ap (λ (t : Bool). t && all_below (in_place ca) (length ca)) (and_false_right (ltb 0 (length ca)) (lt-leb (length ca) 64 h)))
 
-  out-of-place : (k : ℕ) → k < length ca → in_place ca k ≡ false → false ≡ is_allocation ca
+  out_of_place : (k : ℕ) → k < length ca → in_place ca k ≡ false → false ≡ is_allocation ca
   unfolding is_allocation
-  out-of-place k h e =
-      sym (and-false-right (ltb 0 (length ca) && leb (length ca) 64) (refute (all_below (in_place ca) (length ca)) (λ t. not-both (all-at (in_place ca) (length ca) t k h) e)))
+  out_of_place k h e =
+      sym (and_false_right (ltb 0 (length ca) && leb (length ca) 64) (refute (all_below (in_place ca) (length ca)) (λ t. not_both (all_at (in_place ca) (length ca) t k h) e)))
 
   in_order : (length ca ≡ 0 → ⊥) → length ca ≤ 64 → ((k : ℕ) → k < length ca → in_place ca k ≡ true) → true ≡ is_allocation ca
   unfolding is_allocation
@@ -42,7 +42,7 @@ returns-then-ca-gt64 c = too_long _ c.if-ca-gt64.true
 
 pub returns-then-not-in_place : goal.returns-then-not-in_place
 returns-then-not-in_place c =
-    out-of-place c.args.ca.now c.loop-k.k (search rules) (sym c.in_place.ensures ∙ c.if-not-in_place.true)
+    out_of_place c.args.ca.now c.loop-k.k (search rules) (sym c.in_place.ensures ∙ c.if-not-in_place.true)
 
 pub returns : goal.returns
 returns c =

@@ -5,7 +5,7 @@ use mathlib.Core.Bool.{Bool, true, false, not}
 use lib.Dec.{ltb}
 use borrow.Author.Tests.{le-ltb, lt-ltb}
 use Rattle.answers.specs.Outcome.{any_of}
-use Rattle.answers.proofs.Decide.{holds, none-holds}
+use Rattle.answers.proofs.Decide.{holds, none_holds}
 use Rattle.maps.specs.Combinations.{is_combination}
 use Rattle.maps.specs.Map.{out_of_range}
 use Rattle.frame_map.proofs.out_of_range.Goals as goal
@@ -16,7 +16,7 @@ last c tn n d k a b = go (ltb 1 d) refl
   where
     go : (t : Bool) → ltb 1 d ≡ t → t ≡ any_of (out_of_range c tn n d)
     go true e = sym (holds 3 (out_of_range c tn n d) e)
-    go false e = sym (none-holds (out_of_range c tn n d) (ap not k, (a, (b, (e, tt)))))
+    go false e = sym (none_holds (out_of_range c tn n d) (ap not k, (a, (b, (e, tt)))))
 
 pub returns-then-not-is_combination : goal.returns-then-not-is_combination
 returns-then-not-is_combination c = sym (holds 0 _ (ap not (sym c.is_combination.ensures ∙ c.if-not-is_combination.true)))

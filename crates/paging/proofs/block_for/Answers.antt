@@ -14,7 +14,7 @@ use Rattle.groups.specs.declared.PagingBlock.{PagingBlock}
 use Rattle.groups.specs.Frames.{starts}
 use Rattle.groups.specs.Paging.{Common, A, n, r, timeslot, G, block, later, wait, block_for}
 use Rattle.groups.proofs.Group.{group, turn}
-use Rattle.groups.proofs.PagedFrames.{paged-frames}
+use Rattle.groups.proofs.PagedFrames.{paged_frames}
 use Rattle.paging.specs.Helpers.{first_hit}
 use Rattle.paging.proofs.block_for.Goals as goal
 
@@ -28,14 +28,14 @@ module _ (c : Common) (i fn : ℕ) where
   unfolding block_for
   chosen b e = rw e
 
-  no-group : n c ≡ 0 → record { tn = 0; block = 0; frame = 0 } ≡ block_for c i fn
-  no-group e = sym (chosen true (eq-eqb (n c) 0 e))
+  no_group : n c ≡ 0 → record { tn = 0; block = 0; frame = 0 } ≡ block_for c i fn
+  no_group e = sym (chosen true (eq-eqb (n c) 0 e))
 
   module _ (hn : 0 < n c) where
     -- what the code computes is the phone's first frame: both tests are the same
     first_frame : later fn (wait c i fn) ≡ first_hit c.P (G c i / A c) (get_or starts (block c i) 0) fn
     unfolding wait first_hit
-    first_frame = ap (λ (test : ℕ → Bool). later fn (least (λ d. test (later fn d)) hyperframe 0)) (fun_ext (paged-frames c i hn))
+    first_frame = ap (λ (test : ℕ → Bool). later fn (least (λ d. test (later fn d)) hyperframe 0)) (fun_ext (paged_frames c i hn))
 
     answer : 0 < c.K → made c fn (i % n c) (i / n c % c.K) ≡ block_for c i fn
     answer hk =
@@ -55,7 +55,7 @@ product c a w v ew ea ev = ap₂ ◌*◌ (ew ∙ ea) ev
 pub returns-then-n-eq0 : goal.returns-then-n-eq0
 returns-then-n-eq0 c =
     let y : Common = record { K = c.args.lines; combined = c.args.combined; AG = c.args.ag; P = c.args.p } in
-    no-group y _ _ (sym (product y _ _ _ c.wide.ensures c.paging_blocks-a.ensures c.wide-2.ensures) ∙ c.if-n-eq0.true)
+    no_group y _ _ (sym (product y _ _ _ c.wide.ensures c.paging_blocks-a.ensures c.wide-2.ensures) ∙ c.if-n-eq0.true)
 
 pub returns : goal.returns
 returns c =

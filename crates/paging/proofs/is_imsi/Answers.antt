@@ -9,17 +9,17 @@ use lib.ListN.{length, get_or}
 use borrow.Author.Rules.{rules}
 use borrow.Author.Tests.{le-leb, lt-leb}
 use Rattle.answers.specs.Search.{all_below}
-use Rattle.answers.proofs.Search.{all_of, all-at}
-use Rattle.answers.proofs.Tests.{and_both, and-false-right, refute, not-both}
+use Rattle.answers.proofs.Search.{all_of, all_at}
+use Rattle.answers.proofs.Tests.{and_both, and_false_right, refute, not_both}
 use Rattle.groups.specs.Paging.{is_imsi}
 use Rattle.paging.proofs.is_imsi.Goals as goal
 
 module _ (digits : List ℕ) where
   no_digit : (k : ℕ) → k < length digits → 9 < get_or digits k 0 → false ≡ is_imsi digits
   no_digit k h e =
-      sym (and-false-right (leb 3 (length digits)) (and-false-right (leb (length digits) 15)
+      sym (and_false_right (leb 3 (length digits)) (and_false_right (leb (length digits) 15)
       (refute (all_below (λ k. leb (get_or digits k 0) 9) (length digits))
-      (λ t. not-both (all-at (λ k. leb (get_or digits k 0) 9) (length digits) t k h) (lt-leb (get_or digits k 0) 9 e)))))
+      (λ t. not_both (all_at (λ k. leb (get_or digits k 0) 9) (length digits) t k h) (lt-leb (get_or digits k 0) 9 e)))))
 
   all_digits : 3 ≤ length digits → length digits ≤ 15 → ((k : ℕ) → k < length digits → get_or digits k 0 ≤ 9) → true ≡ is_imsi digits
   all_digits l h f =

@@ -10,7 +10,7 @@ use lib.Pow.{shr-shr}
 use lib.Seq.{drop-cons, drop-set-lt, get_or-set_same}
 use borrow.Author.Rules.{rules}
 use Rattle.layouts.specs.Layouts.{bits}
-use Rattle.layouts.proofs.Bits.{length-bits, bit_at}
+use Rattle.layouts.proofs.Bits.{length_bits, bit_at}
 use Rattle.bursts.proofs.fields.write_bits.Invariants.{without}
 use Rattle.bursts.proofs.fields.write_bits.Goals as goal
 
@@ -22,8 +22,8 @@ end_more l t k m v next hl ht e ev =
     ∙ rw (get_or-set_same l k v 0 hl, drop-set-lt (suc k) l k v (omega arith), e', ev) (sym (drop-cons t k 0 ht))
 
 module _ (n word : ℕ) where
-  without-none : word ≡ without n word n
-  without-none = let z : n - n ≡ 0 = omega arith in sym (ap (λ (m : ℕ). word / 2 ^ m) z ∙ div-one word)
+  without_none : word ≡ without n word n
+  without_none = let z : n - n ≡ 0 = omega arith in sym (ap (λ (m : ℕ). word / 2 ^ m) z ∙ div-one word)
 
   without_more : (k : ℕ) → 0 < k → k ≤ n → without n word k / 2 ≡ without n word (k - 1)
   without_more k h l = shr-shr word (n - k) 1 ∙ ap (λ (m : ℕ). word / 2 ^ m) (omega arith)
@@ -35,7 +35,7 @@ pub loop-k-init : goal.loop-k-init
 loop-k-init c =
     let n = length c.args.to.now in
     let word = c.args.word in
-    (refl, search rules, without-none n word, drop_of_length-le c.args.to.now {i = n} (search rules) ∙ sym (drop_of_length-le (bits n word) {i = n} (omega (arith, length-bits n word))))
+    (refl, search rules, without_none n word, drop_of_length-le c.args.to.now {i = n} (search rules) ∙ sym (drop_of_length-le (bits n word) {i = n} (omega (arith, length_bits n word))))
 
 pub loop-k-preserved : goal.loop-k-preserved
 loop-k-preserved c =
@@ -46,6 +46,6 @@ loop-k-preserved c =
       length-set turn.to (turn.k - 1) _ ∙ long,
       search rules,
       ap (λ (m : ℕ). m / 2) turn.invariant.2 ∙ without_more n word turn.k (search rules) (search rules),
-      end_more turn.to (bits n word) (turn.k - 1) turn.k _ (search rules) (omega (arith, long)) (omega (arith, length-bits n word)) turn.invariant.3
+      end_more turn.to (bits n word) (turn.k - 1) turn.k _ (search rules) (omega (arith, long)) (omega (arith, length_bits n word)) turn.invariant.3
           (ap (λ (m : ℕ). m % 2) turn.invariant.2 ∙ last_bit n word turn.k (search rules) (search rules)),
     )

@@ -1,12 +1,12 @@
 -- `fields::write_field` meets its contract: a word's bits, or the payload as it is. Assumes nothing.
 use mathlib.Core.Path.{◌∙◌}
 use borrow.Author.Rules.{rules}
-use Rattle.bursts.proofs.FieldRows.{written-fixed, written-room}
+use Rattle.bursts.proofs.FieldRows.{written_fixed, written_room}
 use Rattle.bursts.proofs.fields.write_field.Goals as goal
 
 pub returns-in-Fixed : goal.returns-in-Fixed
 returns-in-Fixed c =
-    c.write_bits.ensures ∙ written-fixed _ _ _ c.in-Fixed.is _ _ c.requires.1
+    c.write_bits.ensures ∙ written_fixed _ _ _ c.in-Fixed.is _ _ c.requires.1
 
 pub returns-in-Room : goal.returns-in-Room
-returns-in-Room c = c.copy.ensures ∙ written-room _ _ c.in-Room.is _ (search rules)
+returns-in-Room c = c.copy.ensures ∙ written_room _ _ c.in-Room.is _ (search rules)

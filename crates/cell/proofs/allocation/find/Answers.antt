@@ -7,7 +7,7 @@ use lib.ListN.{length, get_or}
 use borrow.Author.Count.{below_none, below_more}
 use borrow.Author.Rules.{rules}
 use borrow.Author.Tests.{eq-eqb, ne_eqb}
-use Rattle.answers.proofs.Search.{least_at, least-none}
+use Rattle.answers.proofs.Search.{least_at, least_none}
 use Rattle.cell.proofs.allocation.find.Goals as goal
 
 pub loop-k-init : goal.loop-k-init
@@ -29,4 +29,4 @@ pub returns : goal.returns
 returns c =
     let x = c.args in
     let e : c.loop-k.k ≡ length x.ca.now = omega arith in
-    e ∙ sym (least-none (λ (k : ℕ). eqb (get_or x.ca.now k 0) x.arfcn) _ _ (λ k h. c.loop-k.invariant.1 k (omega arith)))
+    e ∙ sym (least_none (λ (k : ℕ). eqb (get_or x.ca.now k 0) x.arfcn) _ _ (λ k h. c.loop-k.invariant.1 k (omega arith)))

@@ -9,7 +9,7 @@ use native.Mathlib.Omega.{arith}
 use lib.Dec.{eqb}
 use borrow.Author.Tests.{eq-eqb, ne_eqb}
 use Rattle.answers.specs.Outcome.{any_of}
-use Rattle.answers.proofs.Decide.{holds, none-holds}
+use Rattle.answers.proofs.Decide.{holds, none_holds}
 use Rattle.clock.specs.Clock.{prime_of}
 use Rattle.clock.proofs.Frame.prime.Goals as goal
 
@@ -33,7 +33,7 @@ module _ (t3 : ℕ) where
 
   unlisted : (Listed → ⊥) → any_of tests ≡ false
   unlisted h =
-      none-holds tests (
+      none_holds tests (
         ne_eqb _ _ (λ e. h (inl e)),
         (
           ne_eqb _ _ (λ e. h (inr (inl e))),

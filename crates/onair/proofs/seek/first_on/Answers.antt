@@ -2,7 +2,7 @@
 use mathlib.Core.Path.{sym, ◌∙◌}
 use native.Mathlib.Omega.{arith}
 use borrow.Author.Count.{below_none, below_more}
-use Rattle.answers.proofs.Search.{least_at, least-none}
+use Rattle.answers.proofs.Search.{least_at, least_none}
 use borrow.Author.Rules.{rules}
 use Rattle.onair.proofs.seek.first_on.Goals as goal
 
@@ -16,4 +16,4 @@ pub loop-n-preserved : goal.loop-n-preserved
 loop-n-preserved c = (search rules, below_more _ _ c.loop-n.invariant.1 (sym c.is_on.ensures ∙ c.if-is_on.false))
 
 pub returns : goal.returns
-returns c = sym (least-none _ 64 64 (λ k h. c.loop-n.invariant.1 k (omega arith)))
+returns c = sym (least_none _ 64 64 (λ k h. c.loop-n.invariant.1 k (omega arith)))

@@ -4,7 +4,7 @@ use mathlib.Core.Path.{◌≡◌, refl, ap, ◌∙◌}
 use mathlib.Core.Bool.{Bool, cond}
 use native.Mathlib.Omega.{arith}
 use Rattle.answers.specs.Search.{count_below}
-use Rattle.answers.proofs.Count.{one-le, count_next}
+use Rattle.answers.proofs.Count.{one_le, count_next}
 use Rattle.storage.specs.Words.{cell_of}
 use Rattle.rules.specs.Calls.{is_common_combination}
 use borrow.Author.Rules.{rules}
@@ -12,7 +12,7 @@ use Rattle.placing.proofs.common.common_lines.Invariants.{common}
 use Rattle.placing.proofs.common.common_lines.Goals as goal
 
 at_most_one : (k : ℕ) (b : Bool) → k ≡ cond b 1 0 → k ≤ 1
-at_most_one k b e = let o = one-le b in omega (arith, e, o)
+at_most_one k b e = let o = one_le b in omega (arith, e, o)
 
 -- one more turn
 more : (test : ℕ → Bool) (n : ℕ) {count k : ℕ} → count ≡ count_below test n → k ≡ cond (test n) 1 0 → count + k ≡ count_below test (n + 1)

@@ -11,10 +11,10 @@ found line answer = record { refusal = 0; found = 1; line = line; answer = answe
 
 pub returns-in-Line : goal.returns-in-Line
 unfolding found
-returns-in-Line c = ap (found _) c.slot_numbers.ensures ∙ ap who_numbers c.in-Line.ensures
+returns-in-Line c = ap (found _) c.slot_numbers.ensures ∙ ap who_numbers c.in-Line.ensures.matched
 
 pub returns-in-Nobody : goal.returns-in-Nobody
-returns-in-Nobody c = c.no_line.ensures ∙ ap who_numbers c.in-Nobody.ensures
+returns-in-Nobody c = c.no_line.ensures ∙ ap who_numbers c.in-Nobody.ensures.matched
 
 pub returns-in-Refused : goal.returns-in-Refused
-returns-in-Refused c = c.no_line-in-Refused.ensures ∙ (ap nobody c.refusal_number.ensures ∙ ap who_numbers c.in-Refused.ensures)
+returns-in-Refused c = c.no_line-in-Refused.ensures ∙ (ap nobody c.refusal_number.ensures ∙ ap who_numbers c.in-Refused.ensures.matched)

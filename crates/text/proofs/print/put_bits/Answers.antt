@@ -6,7 +6,7 @@ use native.Mathlib.Omega.{arith}
 use lib.ListN.{length, length-set, length-map}
 use borrow.Author.Rules.{rules}
 use Rattle.wording.specs.Print.{bit_character}
-use Rattle.text.proofs.Append.{put-more, put_all, map_at}
+use Rattle.text.proofs.Append.{put_more, put_all, map_at}
 use Rattle.text.proofs.print.put_bits.Goals as goal
 
 pub loop-i-preserved : goal.loop-i-preserved
@@ -15,7 +15,7 @@ loop-i-preserved c =
     let below : c.loop-i.i < length c.args.bits.now = omega (arith, c.least-n.ensures, c.loop-i-test.true) in (
       length-set c.loop-i.out _ _ ∙ c.loop-i.invariant.0,
       search rules,
-      put-more c.args.out.now (map bit_character c.args.bits.now) c.least-start.result c.loop-i.out c.loop-i.i _ c.loop-i.invariant.0 (omega (arith, c.least-start.ensures, c.least-n.ensures, c.loop-i-test.true))
+      put_more c.args.out.now (map bit_character c.args.bits.now) c.least-start.result c.loop-i.out c.loop-i.i _ c.loop-i.invariant.0 (omega (arith, c.least-start.ensures, c.least-n.ensures, c.loop-i-test.true))
           (omega (arith, long, below)) c.loop-i.invariant.2 (c.bit_character.ensures ∙ map_at bit_character c.args.bits.now c.loop-i.i below),
     )
 

@@ -1,16 +1,16 @@
 -- `words::find` meets its contract: the place found from i on is the one found from the beginning. Assumes nothing.
 use mathlib.Core.Path.{sym, ◌∙◌}
 use borrow.Author.Rules.{rules}
-use Rattle.text.proofs.Scan.{until-more, until-here, until_end}
+use Rattle.text.proofs.Scan.{until_more, until_here, until_end}
 use Rattle.text.proofs.words.find.Goals as goal
 
 pub returns-then-text-i : goal.returns-then-text-i
 returns-then-text-i c =
-    sym (until-here c.args.text.now c.args.byte c.loop-i.i (search rules) (search rules)) ∙ c.loop-i.invariant
+    sym (until_here c.args.text.now c.args.byte c.loop-i.i (search rules) (search rules)) ∙ c.loop-i.invariant
 
 pub loop-i-preserved : goal.loop-i-preserved
 loop-i-preserved c =
-    sym (until-more c.args.text.now c.args.byte c.loop-i.i (search rules) (search rules)) ∙ c.loop-i.invariant
+    sym (until_more c.args.text.now c.args.byte c.loop-i.i (search rules) (search rules)) ∙ c.loop-i.invariant
 
 pub returns : goal.returns
 returns c =

@@ -1,0 +1,80 @@
+-- Each open common line has BCC as its training code, whatever the list. Kept by each call. Assumes nothing.
+use Prim.Native.Nat.{ℕ}
+use mathlib.Core.Path.{◌≡◌, refl, sym, ap, ◌∙◌, subst}
+use mathlib.Core.Bool.{true}
+use mathlib.Core.List.{List, [], ◌∷◌}
+use mathlib.Core.Logic.{⊎_elim}
+use mathlib.Core.Option.{some}
+use borrow.Author.Tests.{eqb-true, not-false}
+use Rattle.answers.specs.Outcome.{Outcome}
+use Rattle.answers.specs.Claims.{None}
+use Rattle.answers.proofs.Decide.{decided}
+use Rattle.answers.proofs.Tests.{and_rest}
+use Rattle.rules.specs.State.{Cell, Values}
+use Rattle.rules.specs.Calls.{step, is_common_combination, misplaced, open_causes, open_of, close_causes, close_of, seize_causes, seize_of, release_causes, release_of}
+use Rattle.rules.specs.History.{Call, opens, closes, seizes, releases, Made, opened_with, last_accepted, cell_from}
+use Rattle.rules.specs.CollisionFree.{calling, made}
+use Rattle.rules.proofs.History.{none_is_not_some, was_accepted, was_refused, open_after_open, open_after_close, still_opened}
+
+abbrev pub Trained : Cell → List Made → Type 0
+Trained first past = (n : ℕ) (v : Values) → opened_with past n ≡ some v → is_common_combination v.combination ≡ true → v.tsc ≡ first.bcc
+
+-- nothing is open before the first call
+pub trained_first : (first : Cell) → Trained first []
+unfolding opened_with last_accepted
+trained_first first n v e h = absurd (none_is_not_some e)
+
+module _ (first : Cell) (past : List Made) (trained : Trained first past) where
+  abbrev before : Cell
+  before = cell_from first past
+
+  -- a call that opens and closes nothing
+  trained_same : (after : List Made) → ((k : ℕ) → opened_with after k ≡ opened_with past k) → Trained first after
+  trained_same after same n v e h = trained n v (sym (same n) ∙ e) h
+
+  trained_refused : (x : Call) → Trained first (was_refused x ∷ past)
+  unfolding opened_with last_accepted
+  trained_refused x = trained_same (was_refused x ∷ past) (λ k. refl)
+
+  trained_closed : (n : ℕ) → Trained first (was_accepted (closes n) ∷ past)
+  trained_closed n k v e h = trained k v (open_after_close past n k v e).1 h
+
+  trained_opened : (n : ℕ) (v : Values) → None (misplaced before v) → Trained first (was_accepted (opens n v) ∷ past)
+  unfolding cell_from
+  trained_opened n v free k w e h =
+      ⊎_elim (λ q. subst (λ (u : Values). u.tsc ≡ first.bcc) q.1 (new (ap (λ (u : Values). is_common_combination u.combination) q.1 ∙ h))) (λ o. trained k w o h) (open_after_open past n v k w e)
+    where
+      new : is_common_combination v.combination ≡ true → v.tsc ≡ first.bcc
+      new g = eqb-true _ _ (not-false _ (and_rest (is_common_combination v.combination) _ g free.1.1.1.0))
+
+  -- ---- what the calls keep
+
+  open_trained : (n : ℕ) (v : Values) → Trained first (made (opens n v) (open_of before n v) ∷ past)
+  unfolding open_of
+  open_trained n v =
+      decided (open_causes before n v) _ (λ (o : Outcome Cell). Trained first (made (opens n v) (step before o) ∷ past)) (λ r. trained_refused (opens n v))
+      (λ none. trained_opened n v none.1.1.1.1.0)
+
+  close_trained : (n : ℕ) → Trained first (made (closes n) (close_of before n) ∷ past)
+  unfolding close_of
+  close_trained n =
+      decided (close_causes before n) _ (λ (o : Outcome Cell). Trained first (made (closes n) (step before o) ∷ past)) (λ r. trained_refused (closes n))
+      (λ none. trained_closed n)
+
+  seize_trained : (n s o : ℕ) → Trained first (made (seizes n s o) (seize_of before n s o) ∷ past)
+  unfolding seize_of
+  seize_trained n s o =
+      decided (seize_causes before n s o) _ (λ (x : Outcome Cell). Trained first (made (seizes n s o) (step before x) ∷ past)) (λ r. trained_refused (seizes n s o))
+      (λ none. trained_same _ (still_opened past (seizes n s o) n s (λ k t. refl) (λ k. refl)))
+
+  release_trained : (n s o : ℕ) → Trained first (made (releases n s o) (release_of before n s o) ∷ past)
+  unfolding release_of
+  release_trained n s o =
+      decided (release_causes before n s o) _ (λ (x : Outcome Cell). Trained first (made (releases n s o) (step before x) ∷ past)) (λ r. trained_refused (releases n s o))
+      (λ none. trained_same _ (still_opened past (releases n s o) n s (λ k t. refl) (λ k. refl)))
+
+  pub call_trained : (x : Call) → Trained first (made x (calling before x) ∷ past)
+  call_trained (opens n v) = open_trained n v
+  call_trained (closes n) = close_trained n
+  call_trained (seizes n s o) = seize_trained n s o
+  call_trained (releases n s o) = release_trained n s o
