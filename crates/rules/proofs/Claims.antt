@@ -27,7 +27,6 @@ use Rattle.rules.specs.State.{Cell, LineState, Values, line_count, closed_line, 
 use Rattle.rules.specs.Calls.{step, start_causes, start_of, physical, line_physical, clash_cause, open_causes, subchannels, is_common_line}
 use Rattle.rules.specs.Paging.{common_lines, common_of, page_of}
 use Rattle.rules.specs.History.{Made, opened_with, last_accepted, since, held_by, is_seized, cell_from}
-use Rattle.rules.specs.Carried.{subchannel, common_part}
 use Rattle.rules.specs.CollisionFree.{begin}
 use Rattle.rules.specs.WellFormed.{Closed}
 use Rattle.rules.specs.Claims.{FairCalls, StartsClosed, StandsInTheWay, NamesSmallest, ClashNamesSmallest, HasRow, SubchannelsOfMap, Beside, ReadsTheList, HeldHasOwner, WhoNames, CommonIn, CountedInOrder, CommonLinesInOrder}
@@ -35,6 +34,7 @@ use Rattle.rules.proofs.Tabulate.{tabulate_at}
 use Rattle.rules.proofs.Begun.{Begun, start_begun}
 use Rattle.rules.proofs.Sound.{allowed_line, or_none_left, or_none_right, Sound, open_line}
 use Rattle.rules.proofs.Places.{Placed}
+use Rattle.rules.proofs.Shown.{held_is_owned}
 use Rattle.rules.proofs.CollisionFree.{begin_keeps, run_keeps}
 use Rattle.rules.proofs.Causes.{start_fair, open_fair, close_fair, seize_fair, release_fair, line_fair, who_fair, smallest_named}
 use Rattle.rules.proofs.SubchannelRows.{row_subchannel, subchannel_row}
@@ -206,11 +206,10 @@ reads_the_list =
 
 pub held_has_owner : HeldHasOwner
 unfolding HeldHasOwner
-held_has_owner ca c0 bcc ag p calls (subchannel n s) = (run_keeps first calls (begin first) (begin_keeps first (start_begun ca c0 bcc ag p))).owned n s
+held_has_owner ca c0 bcc ag p calls x = held_is_owned _ (run_keeps first calls (begin first) (begin_keeps first (start_begun ca c0 bcc ag p))).owned x
   where
     first : Cell
     first = (start_of ca c0 bcc ag p).cell
-held_has_owner ca c0 bcc ag p calls (common_part n) = refl
 
 -- ---- who
 

@@ -11,16 +11,18 @@ use Rattle.answers.specs.Outcome.{Outcome, accepted}
 use Rattle.answers.proofs.Decide.{decided}
 use Rattle.answers.proofs.Tests.{and_left, and_right}
 use Rattle.clock.specs.Clock.{hyperframe}
+use Rattle.hops.specs.Hopping.{line_arfcn}
 use Rattle.maps.specs.Channels.{Standing, is_common}
 use Rattle.maps.specs.Combinations.{rows_of}
-use Rattle.maps.specs.Rows.{told, standing}
+use Rattle.maps.specs.Rows.{Row, stands, told, standing}
 use Rattle.maps.proofs.OneChannel.{one_channel_each_frame}
 use Rattle.maps.proofs.Stood.{Stood, stood, standing_stood}
-use Rattle.rules.specs.State.{Cell, LineState, Values, line_at}
+use Rattle.rules.specs.State.{Cell, LineState, Values, line_at, allocation}
 use Rattle.rules.specs.OnAir.{Slot, owner_of, slot_of, line_causes, line_of}
 use Rattle.rules.specs.History.{Made, opened_with, held_by, cell_from}
 use Rattle.rules.specs.Carried.{Channel, subchannel, common_part, line_number, is_held, is_of, Spot, Stands}
 use Rattle.rules.specs.CollisionFree.{slot_from, is_owned, Shown}
+use Rattle.rules.specs.Claims.{has_owner}
 use Rattle.rules.proofs.Sound.{allowed_tn, Sound, open_line, Opened, is_opened}
 use Rattle.rules.proofs.Owners.{Owned}
 use Rattle.rules.proofs.LineAnswer.{line_is}
@@ -36,16 +38,20 @@ owner_is n tn d fn hn hd held x m = go (standing (rows_of n tn d) fn) m (λ y w.
     go [] m f = absurd (Memᴰ.not-nil m)
     go (y ∷ ys) m f = let e = f y (Memᴰ.head refl) in rw (e.0, e.1) refl
 
--- so it is held exactly if an owner is shown
-owned : (past : List Made) → Owned past → (x : Channel) (b : Standing) → is_of x b ≡ true
-    → is_held past x ≡ is_owned x (cond (is_common b.kind) 0 (held_by past (line_number x) b.subchannel))
-owned past own (subchannel n s) b h =
+-- so it has an owner exactly if one is shown
+owned : (past : List Made) (x : Channel) (b : Standing) → is_of x b ≡ true → has_owner past x ≡ is_owned x (cond (is_common b.kind) 0 (held_by past (line_number x) b.subchannel))
+owned past (subchannel n s) b h =
     let c : is_common b.kind ≡ false = not-true _ (and_left (not (is_common b.kind)) _ h) in
     let e : b.subchannel ≡ s = eqb-true _ _ (and_right (not (is_common b.kind)) _ h) in
-    rw (c, e) (own n s)
-owned past own (common_part n) b h = rw h refl
+    rw (c, e) refl
+owned past (common_part n) b h = rw h refl
 
-module _ (first : Cell) (past : List Made) (sound : Sound first past) (own : Owned past) (x : Channel) (spot : Spot) (hf : spot.fn < hyperframe) (hd : spot.direction < 2) where
+-- where what is held has an owner, to be held is to have one
+pub held_is_owned : (past : List Made) → Owned past → (x : Channel) → is_held past x ≡ has_owner past x
+held_is_owned past own (subchannel n s) = own n s
+held_is_owned past own (common_part n) = refl
+
+module _ (first : Cell) (past : List Made) (sound : Sound first past) (x : Channel) (spot : Spot) (hf : spot.fn < hyperframe) (hd : spot.direction < 2) where
   abbrev n : ℕ
   n = line_number x
 
@@ -57,16 +63,28 @@ module _ (first : Cell) (past : List Made) (sound : Sound first past) (own : Own
   shows v = slot_from first past n v spot.fn spot.direction
 
   held_owned : (v : Values) → opened_with past n ≡ some v → (b : Standing) → Memᴰ b (standing (rows_of v.combination v.tn spot.direction) spot.fn) → is_of x b ≡ true
-      → is_held past x ≡ is_owned x (shows v).owner
+      → has_owner past x ≡ is_owned x (shows v).owner
   held_owned v e b m h =
-      owned past own x b h
+      owned past x b h
       ∙ ap (is_owned x) (sym (owner_is v.combination v.tn spot.direction spot.fn (allowed_tn first n v (sound.allowed n v e)) hd (held_by past n) b m))
 
   tn_is : (v : Values) → opened_with past n ≡ some v → (line_at cell n).tn ≡ v.tn
   tn_is v e = ap (λ (l : LineState). l.tn) (open_line first past sound n v e)
 
-  pub stands_shown : Stands first past x spot → Shown cell x spot
-  stands_shown a =
+  -- `Stands`, but that the channel has an owner: of any sound history
+  pub record StandsOwned : Type 0 where
+    pub values : Values
+    pub is_open : opened_with past n ≡ some values
+    pub held : has_owner past x ≡ true
+    pub row : Row
+    pub of_map : Memᴰ row (rows_of values.combination values.tn spot.direction)
+    pub of_channel : is_of x (told row) ≡ true
+    pub in_frame : stands row spot.fn ≡ true
+    pub in_timeslot : values.tn ≡ spot.tn
+    pub on_arfcn : line_arfcn (allocation first) values.mask values.hsn values.maio spot.fn ≡ spot.arfcn
+
+  pub owned_shown : StandsOwned → Shown cell x spot
+  owned_shown a =
       let v = a.values in
       let m = stood (rows_of v.combination v.tn spot.direction) spot.fn a.row a.of_map a.in_frame in
       record {
@@ -88,8 +106,8 @@ module _ (first : Cell) (past : List Made) (sound : Sound first past) (own : Own
       (λ r e. absurd (let z : ◌≡◌ {A = ℕ} 0 1 = cc in omega arith))
       (λ none e. is_opened first past sound n none.0.0 none.1.0.0)
 
-  pub shown_stands : Shown cell x spot → Stands first past x spot
-  shown_stands a =
+  pub shown_owned : Shown cell x spot → StandsOwned
+  shown_owned a =
       record {
         values = v;
         is_open = w.is_open;
@@ -118,3 +136,35 @@ module _ (first : Cell) (past : List Made) (sound : Sound first past) (own : Own
 
       r : Stood (rows_of v.combination v.tn spot.direction) spot.fn a.burst
       r = standing_stood (rows_of v.combination v.tn spot.direction) spot.fn a.burst there
+
+  -- the same of `Stands`
+  module _ (own : Owned past) where
+    pub stands_shown : Stands first past x spot → Shown cell x spot
+    stands_shown a =
+        owned_shown
+        (record {
+          values = a.values;
+          is_open = a.is_open;
+          held = sym (held_is_owned past own x) ∙ a.held;
+          row = a.row;
+          of_map = a.of_map;
+          of_channel = a.of_channel;
+          in_frame = a.in_frame;
+          in_timeslot = a.in_timeslot;
+          on_arfcn = a.on_arfcn;
+        })
+
+    pub shown_stands : Shown cell x spot → Stands first past x spot
+    shown_stands s =
+        let a = shown_owned s in
+        record {
+          values = a.values;
+          is_open = a.is_open;
+          held = held_is_owned past own x ∙ a.held;
+          row = a.row;
+          of_map = a.of_map;
+          of_channel = a.of_channel;
+          in_frame = a.in_frame;
+          in_timeslot = a.in_timeslot;
+          on_arfcn = a.on_arfcn;
+        }
