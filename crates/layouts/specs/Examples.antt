@@ -16,18 +16,19 @@ refused_with number values lent = record { refusal = some (record { number = num
 pub record CallExamples : Type 0 where
   -- whatever was lent, all 0
   pub frequency_correction : build_frequency_correction_of (all 1 148) ≡ done (all 0 148)
-  -- TSC 7 and 8; 3 comes before 14
+  -- "TSC (training code) 0–7", "3 .. TSC .. out of range": TSC 7 and 8; 3 comes before 14
   pub code_7 : (build_normal_of 7 (all 0 116) (all 1 148)).refusal ≡ none
   pub code_8 : build_normal_of 8 [] (all 1 148) ≡ refused_with 3 [] (all 1 148)
   pub take_code_8 : take_normal_of 8 [] (all 1 116) ≡ refused_with 3 [] (all 1 116)
-  -- a payload of 35 and of 37 bits, a burst of 87 and of 89, and a byte above 1 at either end
+  -- "14 .. a burst or payload, read or to be written, of wrong length, or one that is read with a byte above 1": a payload of 35 and of 37 bits, a
+  -- burst of 87 and of 89, and a byte above 1 at either end
   pub short_payload : build_access_of (all 0 35) (all 1 88) ≡ refused_with 14 [] (all 1 88)
   pub long_payload : build_access_of (all 0 37) (all 1 88) ≡ refused_with 14 [] (all 1 88)
   pub short_burst : build_access_of (all 0 36) (all 1 87) ≡ refused_with 14 [] (all 1 87)
   pub long_burst : build_access_of (all 0 36) (all 1 89) ≡ refused_with 14 [] (all 1 89)
   pub first_byte : build_access_of (2 ∷ all 1 35) (all 1 88) ≡ refused_with 14 [] (all 1 88)
   pub last_byte : build_access_of (all 1 35 ++ (2 ∷ [])) (all 1 88) ≡ refused_with 14 [] (all 1 88)
-  -- where all is 0, bit 2 is the first that differs; 14 comes before 15
+  -- "15 a fixed bit differs, with its lowest bit number": where all is 0, bit 2 is the first that differs; 14 comes before 15
   pub lowest_bit : take_access_of (all 0 88) (all 1 36) ≡ refused_with 15 (2 ∷ []) (all 1 36)
   pub short_and_wrong : take_access_of (all 0 87) (all 1 36) ≡ refused_with 14 [] (all 1 36)
   -- a burst that was built is accepted, and its payload written

@@ -2,6 +2,7 @@ pub mod Lines
 pub mod Tabulate
 pub mod History
 pub mod AsListed
+pub mod EachCall
 pub mod Sound
 pub mod Places
 pub mod Trained

@@ -9,13 +9,12 @@ use mathlib.Core.Option.{Option, some}
 use native.Mathlib.Omega.{arith}
 use lib.Dec.{eqb, ltb}
 use borrow.Author.Tests.{eqb-true, eqb-false, ltb-true, ltb-false, not-false}
-use Rattle.answers.specs.Outcome.{Outcome}
-use Rattle.answers.proofs.Decide.{decided}
 use Rattle.rules.specs.State.{Cell, LineState, Values, line_at}
-use Rattle.rules.specs.Calls.{step, subchannels, no_subchannel, open_causes, open_of, close_causes, close_of, seize_causes, seize_of, release_causes, release_of}
+use Rattle.rules.specs.Calls.{Step, subchannels, no_subchannel}
 use Rattle.rules.specs.History.{Call, opens, closes, seizes, releases, Made, opens_or_closes, opened_with, last_accepted, since, seizes_or_releases, owner_in, held_by, is_seize, is_seized, cell_from}
 use Rattle.rules.specs.CollisionFree.{calling, made}
 use Rattle.rules.proofs.History.{was_accepted, was_refused, named_held, other_opened, other_held, owner_named, owner_beside, owner_elsewhere, still_opened}
+use Rattle.rules.proofs.EachCall.{each_call}
 use Rattle.rules.proofs.Sound.{Sound, open_line, or_none_left, or_none_right}
 
 -- a subchannel is held exactly if it has an owner
@@ -60,35 +59,14 @@ module _ (first : Cell) (past : List Made) (owned : Owned past) where
       go true = good
       go false = owned k t
 
-  open_owned : (n : ℕ) (v : Values) → Owned (made (opens n v) (open_of start n v) ∷ past)
-  unfolding open_of
-  open_owned n v =
-      decided (open_causes start n v) _ (λ (o : Outcome Cell). Owned (made (opens n v) (step start o) ∷ past)) (λ r. owned_refused (opens n v))
-      (λ none. owned_named (opens n v) n (λ k. refl) (λ k s. refl))
-
-  close_owned : (n : ℕ) → Owned (made (closes n) (close_of start n) ∷ past)
-  unfolding close_of
-  close_owned n =
-      decided (close_causes start n) _ (λ (o : Outcome Cell). Owned (made (closes n) (step start o) ∷ past)) (λ r. owned_refused (closes n))
-      (λ none. owned_named (closes n) n (λ k. refl) (λ k s. refl))
-
-  seize_owned : (n s o : ℕ) → Owned (made (seizes n s o) (seize_of start n s o) ∷ past)
-  unfolding seize_of
-  seize_owned n s o =
-      decided (seize_causes start n s o) _ (λ (x : Outcome Cell). Owned (made (seizes n s o) (step start x) ∷ past)) (λ r. owned_refused (seizes n s o))
-      (λ none. owned_by (seizes n s o) n s (λ k t. refl) (λ k. refl) (ap not (sym (or_none_left (eqb o 0) (ltb 65535 o) none.0.1.0))))
-
-  release_owned : (n s o : ℕ) → Owned (made (releases n s o) (release_of start n s o) ∷ past)
-  unfolding release_of
-  release_owned n s o =
-      decided (release_causes start n s o) _ (λ (x : Outcome Cell). Owned (made (releases n s o) (step start x) ∷ past)) (λ r. owned_refused (releases n s o))
-      (λ none. owned_by (releases n s o) n s (λ k t. refl) (λ k. refl) refl)
-
   pub call_owned : (x : Call) → Owned (made x (calling start x) ∷ past)
-  call_owned (opens n v) = open_owned n v
-  call_owned (closes n) = close_owned n
-  call_owned (seizes n s o) = seize_owned n s o
-  call_owned (releases n s o) = release_owned n s o
+  call_owned =
+      each_call start (λ (x : Call) (s : Step). Owned (made x s ∷ past))
+      (λ x r. owned_refused x)
+      (λ n v none. owned_named (opens n v) n (λ k. refl) (λ k s. refl))
+      (λ n none. owned_named (closes n) n (λ k. refl) (λ k s. refl))
+      (λ n s o none. owned_by (seizes n s o) n s (λ k t. refl) (λ k. refl) (ap not (sym (or_none_left (eqb o 0) (ltb 65535 o) none.0.1.0))))
+      (λ n s o none. owned_by (releases n s o) n s (λ k t. refl) (λ k. refl) refl)
 
 pub record Owners (past : List Made) : Type 0 where
   pub range : (n s : ℕ) → held_by past n s ≤ 65535
@@ -153,39 +131,16 @@ module _ (first : Cell) (past : List Made) (sound : Sound first past) (owners : 
           beyond = λ k t v e h. ⊎_elim (λ w. w.2 ∙ exists v (ap (opened_with past) (sym w.0) ∙ (sym (still_opened past x n s names neither k) ∙ e)) (let q = w.1 in omega (arith, h, q))) (λ z. z ∙ owners.beyond k t v (sym (still_opened past x n s names neither k) ∙ e) h) (named_or_same k t);
         }
 
-  -- ---- what the calls keep
-
-  open_owners : (n : ℕ) (v : Values) → Owners (made (opens n v) (open_of before n v) ∷ past)
-  unfolding open_of
-  open_owners n v =
-      decided (open_causes before n v) _ (λ (o : Outcome Cell). Owners (made (opens n v) (step before o) ∷ past)) (λ r. owners_refused (opens n v))
-      (λ none. owners_named (opens n v) n (λ k. refl) (λ k s. refl))
-
-  close_owners : (n : ℕ) → Owners (made (closes n) (close_of before n) ∷ past)
-  unfolding close_of
-  close_owners n =
-      decided (close_causes before n) _ (λ (o : Outcome Cell). Owners (made (closes n) (step before o) ∷ past)) (λ r. owners_refused (closes n))
-      (λ none. owners_named (closes n) n (λ k. refl) (λ k s. refl))
-
   -- an s that 10 does not refuse is one that the line's combination has
   has_subchannel : (n s : ℕ) → no_subchannel (line_at before n) s ≡ false → (v : Values) → opened_with past n ≡ some v → s < subchannels v.combination
   has_subchannel n s h v e =
       ltb-true _ _ (not-false _ (ap (λ (l : LineState). no_subchannel l s) (sym (open_line first past sound n v e)) ∙ h))
 
-  seize_owners : (n s o : ℕ) → Owners (made (seizes n s o) (seize_of before n s o) ∷ past)
-  unfolding seize_of
-  seize_owners n s o =
-      decided (seize_causes before n s o) _ (λ (x : Outcome Cell). Owners (made (seizes n s o) (step before x) ∷ past)) (λ r. owners_refused (seizes n s o))
-      (λ none. owners_taken (seizes n s o) n s (λ k t. refl) (λ k. refl) (ltb-false 65535 o (or_none_right (eqb o 0) (ltb 65535 o) none.0.1.0)) (λ v e h. absurd (let l = has_subchannel n s none.1.1.0.0 v e in omega (arith, h, l))))
-
-  release_owners : (n s o : ℕ) → Owners (made (releases n s o) (release_of before n s o) ∷ past)
-  unfolding release_of
-  release_owners n s o =
-      decided (release_causes before n s o) _ (λ (x : Outcome Cell). Owners (made (releases n s o) (step before x) ∷ past)) (λ r. owners_refused (releases n s o))
-      (λ none. owners_taken (releases n s o) n s (λ k t. refl) (λ k. refl) (omega arith) (λ v e h. refl))
-
   pub call_owners : (x : Call) → Owners (made x (calling before x) ∷ past)
-  call_owners (opens n v) = open_owners n v
-  call_owners (closes n) = close_owners n
-  call_owners (seizes n s o) = seize_owners n s o
-  call_owners (releases n s o) = release_owners n s o
+  call_owners =
+      each_call before (λ (x : Call) (s : Step). Owners (made x s ∷ past))
+      (λ x r. owners_refused x)
+      (λ n v none. owners_named (opens n v) n (λ k. refl) (λ k s. refl))
+      (λ n none. owners_named (closes n) n (λ k. refl) (λ k s. refl))
+      (λ n s o none. owners_taken (seizes n s o) n s (λ k t. refl) (λ k. refl) (ltb-false 65535 o (or_none_right (eqb o 0) (ltb 65535 o) none.0.1.0)) (λ v e h. absurd (let l = has_subchannel n s none.1.1.0.0 v e in omega (arith, h, l))))
+      (λ n s o none. owners_taken (releases n s o) n s (λ k t. refl) (λ k. refl) (omega arith) (λ v e h. refl))

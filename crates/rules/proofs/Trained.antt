@@ -6,15 +6,14 @@ use mathlib.Core.List.{List, [], ◌∷◌}
 use mathlib.Core.Logic.{⊎_elim}
 use mathlib.Core.Option.{some}
 use borrow.Author.Tests.{eqb-true, not-false}
-use Rattle.answers.specs.Outcome.{Outcome}
 use Rattle.answers.specs.Claims.{None}
-use Rattle.answers.proofs.Decide.{decided}
 use Rattle.answers.proofs.Tests.{and_rest}
 use Rattle.rules.specs.State.{Cell, Values}
-use Rattle.rules.specs.Calls.{step, is_common_combination, misplaced, open_causes, open_of, close_causes, close_of, seize_causes, seize_of, release_causes, release_of}
+use Rattle.rules.specs.Calls.{Step, is_common_combination, misplaced}
 use Rattle.rules.specs.History.{Call, opens, closes, seizes, releases, Made, opened_with, last_accepted, cell_from}
 use Rattle.rules.specs.CollisionFree.{calling, made}
 use Rattle.rules.proofs.History.{none_is_not_some, was_accepted, was_refused, open_after_open, open_after_close, still_opened}
+use Rattle.rules.proofs.EachCall.{each_call}
 
 abbrev pub Trained : Cell → List Made → Type 0
 Trained first past = (n : ℕ) (v : Values) → opened_with past n ≡ some v → is_common_combination v.combination ≡ true → v.tsc ≡ first.bcc
@@ -47,34 +46,11 @@ module _ (first : Cell) (past : List Made) (trained : Trained first past) where
       new : is_common_combination v.combination ≡ true → v.tsc ≡ first.bcc
       new g = eqb-true _ _ (not-false _ (and_rest (is_common_combination v.combination) _ g free.1.1.1.0))
 
-  -- ---- what the calls keep
-
-  open_trained : (n : ℕ) (v : Values) → Trained first (made (opens n v) (open_of before n v) ∷ past)
-  unfolding open_of
-  open_trained n v =
-      decided (open_causes before n v) _ (λ (o : Outcome Cell). Trained first (made (opens n v) (step before o) ∷ past)) (λ r. trained_refused (opens n v))
-      (λ none. trained_opened n v none.1.1.1.1.0)
-
-  close_trained : (n : ℕ) → Trained first (made (closes n) (close_of before n) ∷ past)
-  unfolding close_of
-  close_trained n =
-      decided (close_causes before n) _ (λ (o : Outcome Cell). Trained first (made (closes n) (step before o) ∷ past)) (λ r. trained_refused (closes n))
-      (λ none. trained_closed n)
-
-  seize_trained : (n s o : ℕ) → Trained first (made (seizes n s o) (seize_of before n s o) ∷ past)
-  unfolding seize_of
-  seize_trained n s o =
-      decided (seize_causes before n s o) _ (λ (x : Outcome Cell). Trained first (made (seizes n s o) (step before x) ∷ past)) (λ r. trained_refused (seizes n s o))
-      (λ none. trained_same _ (still_opened past (seizes n s o) n s (λ k t. refl) (λ k. refl)))
-
-  release_trained : (n s o : ℕ) → Trained first (made (releases n s o) (release_of before n s o) ∷ past)
-  unfolding release_of
-  release_trained n s o =
-      decided (release_causes before n s o) _ (λ (x : Outcome Cell). Trained first (made (releases n s o) (step before x) ∷ past)) (λ r. trained_refused (releases n s o))
-      (λ none. trained_same _ (still_opened past (releases n s o) n s (λ k t. refl) (λ k. refl)))
-
   pub call_trained : (x : Call) → Trained first (made x (calling before x) ∷ past)
-  call_trained (opens n v) = open_trained n v
-  call_trained (closes n) = close_trained n
-  call_trained (seizes n s o) = seize_trained n s o
-  call_trained (releases n s o) = release_trained n s o
+  call_trained =
+      each_call before (λ (x : Call) (s : Step). Trained first (made x s ∷ past))
+      (λ x r. trained_refused x)
+      (λ n v none. trained_opened n v none.1.1.1.1.0)
+      (λ n none. trained_closed n)
+      (λ n s o none. trained_same _ (still_opened past (seizes n s o) n s (λ k t. refl) (λ k. refl)))
+      (λ n s o none. trained_same _ (still_opened past (releases n s o) n s (λ k t. refl) (λ k. refl)))

@@ -129,7 +129,7 @@ pub record ReadsTheList : Type 0 where
   pub beside_released : (past : List Made) (n s o k t : ℕ) → Beside n s k t → HeldAsBefore past (and_accepted past (releases n s o)) k t
   pub still_open : (past : List Made) (n s o k : ℕ) → OpenAsBefore past (and_accepted past (seizes n s o)) k × OpenAsBefore past (and_accepted past (releases n s o)) k
 
--- an owner is 1 to 65,535: after the calls of any list, from the cell that any start hands back, "held" is "its owner isn't 0"
+-- "for each s an owner 1–65,535, or 0 for free": held is to have an owner, after the calls of any list from the cell that any start hands back
 abbrev pub has_owner : List Made → Channel → Bool
 has_owner past (subchannel n s) = not (eqb (held_by past n s) 0)
 has_owner past (common_part n) = true
