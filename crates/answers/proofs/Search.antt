@@ -1,13 +1,14 @@
--- Laws of `all_below`, `any_below` and `least`. Assumes nothing.
+-- Laws of `all_below`, `any_below`, `least` and `first_below`. Assumes nothing.
 use Prim.Native.Nat.{ℕ, zero, suc, ◌<◌}
 use mathlib.Core.Path.{◌≡◌, refl, sym, ap, ◌∙◌, subst}
 use mathlib.Core.Bool.{Bool, true, false, cond}
 use mathlib.Core.Logic.{◌⊎◌, inl, inr, ⊎_elim}
+use mathlib.Core.Option.{Option, none, some}
 use native.Mathlib.Nat.{not-suc-le-zero, le_of_suc-le-suc, eq-or-lt_of_le, le_refl}
 use native.Mathlib.Omega.{arith}
 use lib.Dec.{ltb}
 use borrow.Author.Tests.{lt-ltb, le-ltb}
-use Rattle.answers.specs.Search.{all_below, any_below, least}
+use Rattle.answers.specs.Search.{all_below, any_below, least, first_below}
 use Rattle.answers.proofs.Tests.{and_left, and_right, and_both, or_left, or_right, or_none, not_both}
 
 -- k is n, or below it
@@ -86,3 +87,11 @@ module _ (test : ℕ → Bool) where
   any_least n =
       ⊎_elim (λ w. any_at n w.place w.below w.passes ∙ sym (ap (λ (k : ℕ). ltb k n) (least_first n n w) ∙ lt-ltb w.place n w.below))
       (λ f. any_none n f ∙ sym (ap (λ (k : ℕ). ltb k n) (least_none n n f) ∙ le-ltb n n (le_refl n))) (first_or_none n)
+
+  -- the first number that passes, if one does
+  pub first_is : (n i : ℕ) → i < n → test i ≡ true → ((k : ℕ) → k < i → test k ≡ false) → first_below test n ≡ some i
+  first_is n i h t f =
+      ap (λ (b : Bool). cond b (some (least test n n)) none) (any_at n i h t) ∙ ap {B = Option ℕ} (λ (k : ℕ). some k) (least_at n n i h t f)
+
+  pub first_none : (n : ℕ) → ((k : ℕ) → k < n → test k ≡ false) → first_below test n ≡ none
+  first_none n f = ap (λ (b : Bool). cond b (some (least test n n)) none) (any_none n f)

@@ -2,7 +2,7 @@
 
 // The refusals of document 01, "Who causes a refusal": one case for each number. specs/Refusals.antt says which
 // number and which values each case stands for.
-#[derive(Clone, Copy)]
+#[derive(Clone, Copy, Debug, PartialEq, Eq)]
 pub enum Refusal {
     // 1: the cell allocation is not 1 to 64 ARFCNs, strictly ascending.
     CellAllocation,
@@ -38,9 +38,42 @@ pub enum Refusal {
     NoCommonLine,
 }
 
-// The answer of a call whose result is elsewhere: in the cell or in the lent bytes.
-#[derive(Clone, Copy)]
-pub enum Answer {
-    Accepted,
-    Refused(Refusal),
+impl Refusal {
+    ghost use Rattle.std.specs.Prelude.{◌≡◌};
+    ghost use Rattle.answers.specs.Refusals.{refusal_of, values_in};
+
+    // Document 01's number.
+    pub fn number(self) -> u32
+        ensures { result ≡ (refusal_of self).number }
+    {
+        match self {
+            Refusal::CellAllocation => 1,
+            Refusal::CellParameter => 2,
+            Refusal::OutOfRange => 3,
+            Refusal::MobileAllocation => 4,
+            Refusal::Maio => 5,
+            Refusal::LineOpen => 6,
+            Refusal::LineClosed => 7,
+            Refusal::CommonChannel => 8,
+            Refusal::Clash { line: _ } => 9,
+            Refusal::NoSubchannel => 10,
+            Refusal::SubchannelHeld => 11,
+            Refusal::NotHolder => 12,
+            Refusal::LineHeld => 13,
+            Refusal::Malformed => 14,
+            Refusal::FixedBit { bit: _ } => 15,
+            Refusal::NoCommonLine => 16,
+        }
+    }
+
+    // The line of a clash, or the fixed bit that differs; the others come alone.
+    pub fn value(self) -> Option<u32>
+        ensures { values_in result ≡ (refusal_of self).values }
+    {
+        match self {
+            Refusal::Clash { line } => Some(line),
+            Refusal::FixedBit { bit } => Some(bit),
+            _ => None,
+        }
+    }
 }

@@ -1,25 +1,22 @@
 -- Laws of rows that are put together of fields: how wide they are, what is built, taken and wrong in one field, and in one after another.
 -- Assumes nothing.
-use Prim.Native.Nat.{ℕ, zero, suc, ◌+◌, ◌≤◌, ◌<◌}
+use Prim.Native.Nat.{ℕ, zero, suc, ◌+◌, ◌<◌}
 use mathlib.Core.Path.{◌≡◌, refl, sym, ap, ◌∙◌}
-use mathlib.Core.Bool.{Bool, true, false, not, cond}
+use mathlib.Core.Bool.{false, not}
 use mathlib.Core.List.{List, [], ◌∷◌, ◌++◌, map}
 use mathlib.Core.Option.{Option, none, some}
-use native.Mathlib.Nat.{zero-add, suc-add, not-suc-le-zero, le_of_suc-le-suc}
+use native.Mathlib.Nat.{zero-add, suc-add}
 use native.Mathlib.Omega.{arith}
-use borrow.Author.Tests.{eq-eqb, ne_eqb}
-use lib.ListN.{length, take, drop, get_or, replicate, length-replicate}
-use Rattle.bursts.specs.declared.fields.Field.{Field}
+use lib.Dec.{eqb}
+use lib.ListN.{length, take, drop, get_or, replicate, length-replicate, length-map}
+use Rattle.std.proofs.lemmas.List.{get_or-map, get_or-take, get_or-drop, get_or-append-add, get_or_append_left}
+use Rattle.bursts.specs.declared.field.Field.{Field}
 use Rattle.layouts.specs.Layouts.{bits}
-use Rattle.layouts.specs.Rows.{Row, room, built, taken, is_other}
-use Rattle.bursts.specs.Helpers.{width, payload_of, field_row, first_wrong}
+use Rattle.layouts.specs.Rows.{Row, room, built, taken, is_other, differs}
+use Rattle.bursts.specs.Helpers.{width, payload_of, field_row}
 use Rattle.layouts.proofs.Bits.{length_bits}
 
 -- ---- fixed bits, and room for payload bits
-
-length_states : (states : List ℕ) → length (map some states) ≡ length states
-length_states [] = refl
-length_states (s ∷ states) = ap suc (length_states states)
 
 room_states : (states : List ℕ) → room (map some states) ≡ 0
 unfolding room
@@ -51,43 +48,21 @@ unfolding taken
 taken_free [] = refl
 taken_free (b ∷ burst) = ap (λ (l : List ℕ). b ∷ l) (taken_free burst)
 
-none_wrong : (n : ℕ) (burst : List ℕ) → first_wrong (replicate n none) burst ≡ n
-unfolding first_wrong
-none_wrong zero burst = refl
-none_wrong (suc n) burst = ap suc (none_wrong n (drop 1 burst))
+-- where no bit is fixed none differs, and where all are it is those that are other bits
+free_at : (n k : ℕ) (b : List ℕ) → differs (replicate n none) b k ≡ false
+free_at zero k b = refl
+free_at (suc n) zero b = refl
+free_at (suc n) (suc k) [] = free_at n k []
+free_at (suc n) (suc k) (x ∷ b) = free_at n k b
 
-pub next_at : (b : List ℕ) (i : ℕ) → get_or (drop 1 b) i 0 ≡ get_or b (suc i) 0
-next_at [] i = refl
-next_at (x ∷ b) i = refl
-
--- the burst has the fixed bits below k
-abbrev pub AgreeBelow : ℕ → List ℕ → List ℕ → Type 0
-AgreeBelow k states burst = (i : ℕ) → i < k → get_or burst i 0 ≡ get_or states i 0
-
-agree_next : (k s : ℕ) (states b : List ℕ) → AgreeBelow (suc k) (s ∷ states) b → AgreeBelow k states (drop 1 b)
-agree_next k s states b f i h = next_at b i ∙ f (suc i) (omega arith)
-
-agrees : (k s : ℕ) (states b : List ℕ) → AgreeBelow (suc k) (s ∷ states) b → first_wrong (map some (s ∷ states)) b ≡ suc (first_wrong (map some states) (drop 1 b))
-unfolding first_wrong
-agrees k s states b f = ap (λ (t : Bool). cond (not t) 0 (suc (first_wrong (map some states) (drop 1 b)))) (eq-eqb (get_or b 0 0) s (f 0 (omega arith)))
-
-pub wrong_at : (k : ℕ) (states b : List ℕ) → AgreeBelow k states b → k < length states → (get_or b k 0 ≡ get_or states k 0 → ⊥) → first_wrong (map some states) b ≡ k
-unfolding first_wrong
-wrong_at k [] b f h e = absurd (not-suc-le-zero h)
-wrong_at zero (s ∷ states) b f h e = ap (λ (t : Bool). cond (not t) 0 (suc (first_wrong (map some states) (drop 1 b)))) (ne_eqb (get_or b 0 0) s e)
-wrong_at (suc k) (s ∷ states) b f h e =
-    agrees k s states b f ∙ ap suc (wrong_at k states (drop 1 b) (agree_next k s states b f) (le_of_suc-le-suc h) (λ q. e (sym (next_at b k) ∙ q)))
-
-pub all_agree : (states b : List ℕ) → AgreeBelow (length states) states b → first_wrong (map some states) b ≡ length states
-unfolding first_wrong
-all_agree [] b f = refl
-all_agree (s ∷ states) b f = agrees (length states) s states b f ∙ ap suc (all_agree states (drop 1 b) (agree_next (length states) s states b f))
+pub states_at : (states b : List ℕ) (k : ℕ) → k < length states → differs (map some states) b k ≡ not (eqb (get_or b k 0) (get_or states k 0))
+states_at states b k h = ap (λ (x : Option ℕ). is_other x (get_or b k 0)) (get_or-map some states k 0 none h)
 
 -- ---- a field
 
 pub length_field : (f : Field) → length (field_row f) ≡ width f
 unfolding field_row
-length_field (Field.Fixed n word) = length_states (bits n word) ∙ length_bits n word
+length_field (Field.Fixed n word) = length-map (bits n word) some ∙ length_bits n word
 length_field (Field.Room n) = length-replicate n none
 
 pub room_field : (f : Field) → room (field_row f) ≡ payload_of f
@@ -97,38 +72,33 @@ room_field (Field.Room n) = room_free n
 
 -- what each arm of a `match` on the field has written, read or compared
 module _ (f : Field) (n word : ℕ) (e : f ≡ Field.Fixed n word) where
-  pub written_fixed : (to payload : List ℕ) → length to ≡ width f → bits (length to) word ≡ built (field_row f) payload
+  pub row_fixed : (m : ℕ) → m ≡ width f → map some (bits m word) ≡ field_row f
   unfolding field_row
-  written_fixed to payload h =
-      ap (λ (m : ℕ). bits m word) (h ∙ ap width e) ∙ sym (built_states (bits n word) payload) ∙ ap (λ (g : Field). built (field_row g) payload) (sym e)
+  row_fixed m h = ap (λ (i : ℕ). map some (bits i word)) (h ∙ ap width e) ∙ ap field_row (sym e)
+
+  pub written_fixed : (to payload : List ℕ) → length to ≡ width f → bits (length to) word ≡ built (field_row f) payload
+  written_fixed to payload h = sym (built_states (bits (length to) word) payload) ∙ ap (λ (row : Row). built row payload) (row_fixed (length to) h)
 
   pub read_fixed : (payload burst : List ℕ) → length payload ≡ payload_of f → payload ≡ taken (field_row f) burst
-  unfolding field_row
-  read_fixed payload burst h = empty payload (h ∙ ap payload_of e) ∙ sym (taken_states (bits n word) burst) ∙ ap (λ (g : Field). taken (field_row g) burst) (sym e)
+  read_fixed payload burst h = empty payload (h ∙ ap payload_of e) ∙ sym (taken_states (bits (width f) word) burst) ∙ ap (λ (row : Row). taken row burst) (row_fixed (width f) refl)
     where
       empty : (l : List ℕ) → length l ≡ 0 → l ≡ []
       empty [] h = refl
       empty (x ∷ l) h = absurd (omega arith)
 
-  pub compared_fixed : (burst : List ℕ) → length burst ≡ width f → first_wrong (map some (bits (length burst) word)) burst ≡ first_wrong (field_row f) burst
-  unfolding field_row
-  compared_fixed burst h =
-      ap (λ (m : ℕ). first_wrong (map some (bits m word)) burst) (h ∙ ap width e) ∙ ap (λ (g : Field). first_wrong (field_row g) burst) (sym e)
-
 module _ (f : Field) (n : ℕ) (e : f ≡ Field.Room n) where
-  pub written_room : (payload : List ℕ) → length payload ≡ payload_of f → payload ≡ built (field_row f) payload
+  row_room : (m : ℕ) → m ≡ n → replicate m none ≡ field_row f
   unfolding field_row
-  written_room payload h =
-      sym (built_free payload) ∙ ap (λ (m : ℕ). built (replicate m none) payload) (h ∙ ap payload_of e) ∙ ap (λ (g : Field). built (field_row g) payload) (sym e)
+  row_room m h = ap (λ (i : ℕ). replicate i none) h ∙ ap field_row (sym e)
+
+  pub written_room : (payload : List ℕ) → length payload ≡ payload_of f → payload ≡ built (field_row f) payload
+  written_room payload h = sym (built_free payload) ∙ ap (λ (row : Row). built row payload) (row_room (length payload) (h ∙ ap payload_of e))
 
   pub read_room : (burst : List ℕ) → length burst ≡ width f → burst ≡ taken (field_row f) burst
-  unfolding field_row
-  read_room burst h =
-      sym (taken_free burst) ∙ ap (λ (m : ℕ). taken (replicate m none) burst) (h ∙ ap width e) ∙ ap (λ (g : Field). taken (field_row g) burst) (sym e)
+  read_room burst h = sym (taken_free burst) ∙ ap (λ (row : Row). taken row burst) (row_room (length burst) (h ∙ ap width e))
 
-  pub compared_room : (burst : List ℕ) → n ≡ first_wrong (field_row f) burst
-  unfolding field_row
-  compared_room burst = sym (none_wrong n burst) ∙ ap (λ (g : Field). first_wrong (field_row g) burst) (sym e)
+  pub none_wrong_room : (burst : List ℕ) (k : ℕ) → differs (field_row f) burst k ≡ false
+  none_wrong_room burst k = ap (λ (row : Row). differs row burst k) (sym (row_room n refl)) ∙ free_at n k burst
 
 -- ---- one row after another
 
@@ -166,40 +136,11 @@ taken_append [] s b = refl
 taken_append (some x ∷ r) s b = rw (rest (length r) b, taken_append r s (drop 1 b), drop_by_one (length r) b) refl
 taken_append (none ∷ r) s b = rw (first (length r) b, rest (length r) b, taken_append r s (drop 1 b), drop_by_one (length r) b) refl
 
-pub wrong_le : (r : Row) (b : List ℕ) → first_wrong r b ≤ length r
-unfolding first_wrong
-wrong_le [] b = omega arith
-wrong_le (x ∷ r) b = go (is_other x (get_or b 0 0)) (wrong_le r (drop 1 b))
-  where
-    go : (t : Bool) → first_wrong r (drop 1 b) ≤ length r → cond t 0 (suc (first_wrong r (drop 1 b))) ≤ suc (length r)
-    go true h = omega arith
-    go false h = omega arith
+-- a bit of the first row differs where that row differs in its part, and one of the second where that row does in the rest
+pub differs_front : (r s : Row) (b : List ℕ) (k : ℕ) → k < length r → differs (r ++ s) b k ≡ differs r (take (length r) b) k
+differs_front r s b k h =
+    ap (λ (x : Option ℕ). is_other x (get_or b k 0)) (get_or_append_left r s none k h) ∙ ap (is_other (get_or r k none)) (sym (get_or-take (length r) b k 0 h))
 
--- a wrong bit in the first row is the first, and where that has none, the first of the second row is
-module _ (x : Option ℕ) (b : ℕ) (n m k : ℕ) where
-  step_left : (m < n → k ≡ m) → cond (is_other x b) 0 (suc m) < suc n → cond (is_other x b) 0 (suc k) ≡ cond (is_other x b) 0 (suc m)
-  step_left more = go (is_other x b)
-    where
-      go : (t : Bool) → cond t 0 (suc m) < suc n → cond t 0 (suc k) ≡ cond t 0 (suc m)
-      go true h = refl
-      go false h = ap suc (more (le_of_suc-le-suc h))
-
-  step_right : (j : ℕ) → (m ≡ n → k ≡ n + j) → cond (is_other x b) 0 (suc m) ≡ suc n → cond (is_other x b) 0 (suc k) ≡ suc n + j
-  step_right j more = go (is_other x b)
-    where
-      go : (t : Bool) → cond t 0 (suc m) ≡ suc n → cond t 0 (suc k) ≡ suc n + j
-      go true h = absurd (omega arith)
-      go false h = ap suc (more (omega arith)) ∙ sym (suc-add n j)
-
-pub wrong_left : (r s : Row) (b : List ℕ) → first_wrong r (take (length r) b) < length r → first_wrong (r ++ s) b ≡ first_wrong r (take (length r) b)
-unfolding first_wrong
-wrong_left [] s b = λ h. absurd (not-suc-le-zero h)
-wrong_left (x ∷ r) s b =
-    rw (first (length r) b, rest (length r) b) (step_left x (get_or b 0 0) (length r) (first_wrong r (take (length r) (drop 1 b))) (first_wrong (r ++ s) (drop 1 b)) (wrong_left r s (drop 1 b)))
-
-pub wrong_right : (r s : Row) (b : List ℕ) → first_wrong r (take (length r) b) ≡ length r → first_wrong (r ++ s) b ≡ length r + first_wrong s (drop (length r) b)
-unfolding first_wrong
-wrong_right [] s b = λ h. sym (zero-add (first_wrong s b))
-wrong_right (x ∷ r) s b =
-    rw (first (length r) b, rest (length r) b, sym (drop_by_one (length r) b))
-    (step_right x (get_or b 0 0) (length r) (first_wrong r (take (length r) (drop 1 b))) (first_wrong (r ++ s) (drop 1 b)) (first_wrong s (drop (length r) (drop 1 b))) (wrong_right r s (drop 1 b)))
+pub differs_after : (r s : Row) (b : List ℕ) (k : ℕ) → differs (r ++ s) b (length r + k) ≡ differs s (drop (length r) b) k
+differs_after r s b k =
+    ap (λ (x : Option ℕ). is_other x (get_or b (length r + k) 0)) (get_or-append-add r s k none) ∙ ap (is_other (get_or s k none)) (sym (get_or-drop (length r) b k 0))

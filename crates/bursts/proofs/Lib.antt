@@ -1,5 +1,4 @@
-pub mod Calls
-pub mod FieldRows
-pub mod FirstWrong
-pub mod Turns
 pub mod Standard
+pub mod FieldRows
+pub mod Turns
+pub mod Calls

@@ -1,9 +1,9 @@
 -- What the helpers of the code compute. No part of what is promised to a caller. Assumes nothing.
-use Rattle.std.specs.Prelude.{ℕ, suc, cond, List, [], ◌∷◌, ◌++◌, map, drop, replicate, get_or}
+use Rattle.std.specs.Prelude.{ℕ, ◌≡◌, ◌<◌, true, false, List, [], ◌∷◌, ◌++◌, map, length, replicate, Option, Some, None}
 use Rattle.std.proofs.Math.Option.{some, none}
-use Rattle.bursts.specs.declared.fields.Field.{Field}
+use Rattle.bursts.specs.declared.field.Field.{Field}
 use Rattle.layouts.specs.Layouts.{bits}
-use Rattle.layouts.specs.Rows.{Row, is_other}
+use Rattle.layouts.specs.Rows.{Row, differs}
 
 -- the code's fields: a word in so many bits, first bit highest, or room for as many payload bits
 abbrev pub width : Field → ℕ
@@ -22,7 +22,11 @@ unfoldable pub fields_row : List Field → Row
 fields_row [] = []
 fields_row (f ∷ fs) = field_row f ++ fields_row fs
 
--- the first bit number where a fixed bit differs, or the row's length where none does
-unfoldable pub first_wrong : Row → List ℕ → ℕ
-first_wrong [] burst = 0
-first_wrong (bit ∷ row) burst = cond (is_other bit (get_or burst 0 0)) 0 (suc (first_wrong row (drop 1 burst)))
+-- no fixed bit below bit number n differs
+abbrev pub NoneWrong : Row → List ℕ → ℕ → Type 0
+NoneWrong row burst n = (k : ℕ) → k < n → differs row burst k ≡ false
+
+-- the first bit number where a fixed bit differs, if there is one
+abbrev pub FirstWrong : Row → List ℕ → Option ℕ → Type 0
+FirstWrong row burst (Some n) = (n < length row) × (differs row burst n ≡ true) × NoneWrong row burst n
+FirstWrong row burst None = NoneWrong row burst (length row)

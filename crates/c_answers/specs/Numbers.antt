@@ -6,13 +6,20 @@ use Rattle.answers.specs.Outcome.{Refused, Outcome, refused, accepted}
 use Rattle.clock.specs.declared.Frame.{Frame}
 use Rattle.clock.specs.Clock.{prime_of}
 use Rattle.maps.specs.Channels.{Standing}
-use Rattle.maps.specs.Numbers.{Numbers, numbers_of}
+use Rattle.groups.specs.declared.PagingBlock.{PagingBlock}
+use Rattle.maps.specs.declared.Found.{Found}
+use Rattle.maps.specs.declared.OnAir.{OnAir}
+use Rattle.maps.specs.Map.{carried}
+use Rattle.maps.specs.Numbers.{Numbers, no_numbers, standing_numbers, numbers_of}
 use Rattle.c_answers.specs.declared.TdmaAnswer.{TdmaAnswer}
 use Rattle.c_answers.specs.declared.TdmaSplit.{TdmaSplit}
 use Rattle.c_answers.specs.declared.TdmaJoin.{TdmaJoin}
 use Rattle.c_answers.specs.declared.TdmaPosition.{TdmaPosition}
 use Rattle.c_answers.specs.declared.TdmaHop.{TdmaHop}
 use Rattle.c_answers.specs.declared.TdmaMap.{TdmaMap}
+use Rattle.c_answers.specs.declared.TdmaLine.{TdmaLine}
+use Rattle.c_answers.specs.declared.TdmaWho.{TdmaWho}
+use Rattle.c_answers.specs.declared.TdmaPage.{TdmaPage}
 
 -- the first entry, 0 where there is none
 abbrev pub first_of : List ℕ → ℕ
@@ -62,3 +69,28 @@ map_fields n =
 
 abbrev pub map_numbers : Outcome (List Standing) → TdmaMap
 map_numbers m = map_fields (numbers_of m)
+
+abbrev pub line_fields : ℕ → ℕ → Numbers → TdmaLine
+line_fields arfcn owner n =
+    record { refusal = n.refusal; arfcn = arfcn; owner = owner; channel = n.channel; subchannel = n.subchannel; blocks = n.blocks; block = n.block; place = n.place; block2 = n.block2; place2 = n.place2 }
+
+-- what a line sends
+abbrev pub on_air_numbers : OnAir → TdmaLine
+on_air_numbers a = line_fields a.arfcn a.owner (standing_numbers (carried a.content))
+
+abbrev pub told_line : Outcome OnAir → TdmaLine
+told_line (refused r) = line_fields 0 0 (no_numbers r.number)
+told_line (accepted a) = on_air_numbers a
+
+-- nobody, or a refusal: every other number is 0
+abbrev pub nobody : ℕ → TdmaWho
+nobody refusal = record { refusal = refusal; found = 0; line = 0; answer = line_fields 0 0 (no_numbers 0) }
+
+abbrev pub told_who : Outcome (Option Found) → TdmaWho
+told_who (refused r) = nobody r.number
+told_who (accepted none) = nobody 0
+told_who (accepted (some f)) = record { refusal = 0; found = 1; line = f.line; answer = on_air_numbers f.on_air }
+
+abbrev pub page_numbers : Outcome PagingBlock → TdmaPage
+page_numbers (refused r) = record { refusal = r.number; tn = 0; block = 0; frame = 0 }
+page_numbers (accepted b) = record { refusal = 0; tn = b.tn; block = b.block; frame = b.frame }

@@ -1,17 +1,15 @@
-// The answers of the C interface as plain numbers.
+// The answers of the C interface as plain numbers, and how each is made of the answer of the call. The structs are the header's: a refusal with numbers
+// beside it, 0 for none, is what C can read.
 #![tactic(auto)]
 
-ghost use Rattle.std.specs.Prelude.{◌≡◌};
-ghost use Rattle.answers.specs.Outcome.{accepted};
-ghost use Rattle.answers.specs.Refusals.{refusal_of, refusal_in};
-ghost use Rattle.c_answers.specs.Numbers.{value_of, answer_numbers, split_numbers};
-
-use answers::{Answer, Refusal};
-use clock::{Frame, Prime};
+use answers::Refusal;
+use clock::Frame;
+use groups::PagingBlock;
+use maps::{Blocks, Content, Found, OnAir};
 
 // T1, T2, T3, and T3' where `given` is 1.
 #[repr(C)]
-#[derive(Clone, Copy)]
+#[derive(Clone, Copy, Default, PartialEq, Eq)]
 pub struct TdmaSplit {
     pub refusal: u32,
     pub t1: u32,
@@ -22,21 +20,21 @@ pub struct TdmaSplit {
 }
 
 #[repr(C)]
-#[derive(Clone, Copy)]
+#[derive(Clone, Copy, Default, PartialEq, Eq)]
 pub struct TdmaJoin {
     pub refusal: u32,
     pub frame: u32,
 }
 
 #[repr(C)]
-#[derive(Clone, Copy)]
+#[derive(Clone, Copy, Default, PartialEq, Eq)]
 pub struct TdmaPosition {
     pub refusal: u32,
     pub position: u32,
 }
 
 #[repr(C)]
-#[derive(Clone, Copy)]
+#[derive(Clone, Copy, Default, PartialEq, Eq)]
 pub struct TdmaHop {
     pub refusal: u32,
     pub arfcn: u32,
@@ -44,7 +42,7 @@ pub struct TdmaHop {
 
 // The channel, 0 for idle, its subchannel, and as many blocks and places as `blocks` says. Bytes, so that the answer fits one register.
 #[repr(C)]
-#[derive(Clone, Copy)]
+#[derive(Clone, Copy, Default, PartialEq, Eq)]
 pub struct TdmaMap {
     pub refusal: u8,
     pub channel: u8,
@@ -58,7 +56,7 @@ pub struct TdmaMap {
 
 // The answer of a call whose result is in the lent words or bytes: the refusal, and with 9 the line in the way, with 15 the bit that differs.
 #[repr(C)]
-#[derive(Clone, Copy)]
+#[derive(Clone, Copy, Default, PartialEq, Eq)]
 pub struct TdmaAnswer {
     pub refusal: u32,
     pub value: u32,
@@ -66,7 +64,7 @@ pub struct TdmaAnswer {
 
 // The ARFCN and the owner; the channel, 0 for idle, its subchannel, and as many blocks and places as `blocks` says.
 #[repr(C)]
-#[derive(Clone, Copy)]
+#[derive(Clone, Copy, Default, PartialEq, Eq)]
 pub struct TdmaLine {
     pub refusal: u32,
     pub arfcn: u32,
@@ -82,7 +80,7 @@ pub struct TdmaLine {
 
 // The line that was found (`found` 1) and its answer, or nobody (0).
 #[repr(C)]
-#[derive(Clone, Copy)]
+#[derive(Clone, Copy, Default, PartialEq, Eq)]
 pub struct TdmaWho {
     pub refusal: u32,
     pub found: u32,
@@ -92,7 +90,7 @@ pub struct TdmaWho {
 
 // A phone's timeslot and CCCH block, and the first frame of that.
 #[repr(C)]
-#[derive(Clone, Copy)]
+#[derive(Clone, Copy, Default, PartialEq, Eq)]
 pub struct TdmaPage {
     pub refusal: u32,
     pub tn: u32,
@@ -100,92 +98,212 @@ pub struct TdmaPage {
     pub frame: u32,
 }
 
-// Document 01's number of a refusal.
-pub fn refusal_number(e: Refusal) -> u32
-    ensures { result ≡ (refusal_of e).number }
-{
-    match e {
-        Refusal::CellAllocation => 1,
-        Refusal::CellParameter => 2,
-        Refusal::OutOfRange => 3,
-        Refusal::MobileAllocation => 4,
-        Refusal::Maio => 5,
-        Refusal::LineOpen => 6,
-        Refusal::LineClosed => 7,
-        Refusal::CommonChannel => 8,
-        Refusal::Clash { line: _ } => 9,
-        Refusal::NoSubchannel => 10,
-        Refusal::SubchannelHeld => 11,
-        Refusal::NotHolder => 12,
-        Refusal::LineHeld => 13,
-        Refusal::Malformed => 14,
-        Refusal::FixedBit { bit: _ } => 15,
-        Refusal::NoCommonLine => 16,
+impl From<Result<(), Refusal>> for TdmaAnswer {
+    ghost use Rattle.std.specs.Prelude.{◌≡◌};
+    ghost use Rattle.answers.specs.Refusals.{refusal_in};
+    ghost use Rattle.c_answers.specs.Numbers.{answer_numbers};
+
+    ghost from_gives = { λ answer numbers. numbers ≡ answer_numbers (refusal_in answer) };
+
+    fn from(answer: Result<(), Refusal>) -> TdmaAnswer {
+        match answer {
+            Ok(()) => TdmaAnswer::default(),
+            Err(refusal) => TdmaAnswer {
+                refusal: refusal.number(),
+                value: refusal.value().unwrap_or(0),
+            },
+        }
     }
 }
 
-// The value that comes with a refusal, 0 if it comes alone.
-pub fn refusal_value(e: Refusal) -> u32
-    ensures { result ≡ value_of (refusal_of e) }
-{
-    match e {
-        Refusal::CellAllocation => 0,
-        Refusal::CellParameter => 0,
-        Refusal::OutOfRange => 0,
-        Refusal::MobileAllocation => 0,
-        Refusal::Maio => 0,
-        Refusal::LineOpen => 0,
-        Refusal::LineClosed => 0,
-        Refusal::CommonChannel => 0,
-        Refusal::Clash { line } => line,
-        Refusal::NoSubchannel => 0,
-        Refusal::SubchannelHeld => 0,
-        Refusal::NotHolder => 0,
-        Refusal::LineHeld => 0,
-        Refusal::Malformed => 0,
-        Refusal::FixedBit { bit } => bit,
-        Refusal::NoCommonLine => 0,
+impl From<Result<Frame, Refusal>> for TdmaSplit {
+    ghost use Rattle.std.specs.Prelude.{◌≡◌};
+    ghost use Rattle.answers.specs.Refusals.{outcome_of};
+    ghost use Rattle.c_answers.specs.Numbers.{split_numbers};
+
+    ghost from_gives = { λ answer numbers. numbers ≡ split_numbers (outcome_of answer) };
+
+    fn from(answer: Result<Frame, Refusal>) -> TdmaSplit {
+        match answer {
+            Ok(frame) => {
+                let prime = frame.prime();
+                TdmaSplit {
+                    refusal: 0,
+                    t1: frame.t1,
+                    t2: frame.t2,
+                    t3: frame.t3,
+                    given: u32::from(prime.is_some()),
+                    prime: prime.unwrap_or(0),
+                }
+            }
+            Err(refusal) => TdmaSplit {
+                refusal: refusal.number(),
+                ..TdmaSplit::default()
+            },
+        }
     }
 }
 
-pub fn answer_numbers(a: Answer) -> TdmaAnswer
-    ensures { result ≡ answer_numbers (refusal_in a) }
-{
-    match a {
-        Answer::Accepted => TdmaAnswer {
-            refusal: 0,
-            value: 0,
-        },
-        Answer::Refused(e) => TdmaAnswer {
-            refusal: refusal_number(e),
-            value: refusal_value(e),
-        },
+// Join, position and hop have a struct of the header each, with its own name for the number, and so an impl each.
+impl From<Result<u32, Refusal>> for TdmaJoin {
+    ghost use Rattle.std.specs.Prelude.{◌≡◌};
+    ghost use Rattle.answers.specs.Refusals.{outcome_of};
+    ghost use Rattle.c_answers.specs.Numbers.{join_numbers};
+
+    ghost from_gives = { λ answer numbers. numbers ≡ join_numbers (outcome_of answer) };
+
+    fn from(answer: Result<u32, Refusal>) -> TdmaJoin {
+        match answer {
+            Ok(frame) => TdmaJoin { refusal: 0, frame },
+            Err(refusal) => TdmaJoin {
+                refusal: refusal.number(),
+                frame: 0,
+            },
+        }
     }
 }
 
-// The answer of a frame that was split.
-pub fn split_parts(f: Frame) -> TdmaSplit
-    ensures { result ≡ split_numbers (accepted f) }
-{
-    let t1 = f.t1;
-    let t2 = f.t2;
-    let t3 = f.t3;
-    match f.prime() {
-        Prime::Given(k) => TdmaSplit {
-            refusal: 0,
-            t1,
-            t2,
-            t3,
-            given: 1,
-            prime: k,
-        },
-        Prime::NotGiven => TdmaSplit {
-            refusal: 0,
-            t1,
-            t2,
-            t3,
-            given: 0,
-            prime: 0,
-        },
+impl From<Result<u32, Refusal>> for TdmaPosition {
+    ghost use Rattle.std.specs.Prelude.{◌≡◌};
+    ghost use Rattle.answers.specs.Refusals.{outcome_of};
+    ghost use Rattle.c_answers.specs.Numbers.{position_numbers};
+
+    ghost from_gives = { λ answer numbers. numbers ≡ position_numbers (outcome_of answer) };
+
+    fn from(answer: Result<u32, Refusal>) -> TdmaPosition {
+        match answer {
+            Ok(position) => TdmaPosition {
+                refusal: 0,
+                position,
+            },
+            Err(refusal) => TdmaPosition {
+                refusal: refusal.number(),
+                position: 0,
+            },
+        }
+    }
+}
+
+impl From<Result<u32, Refusal>> for TdmaHop {
+    ghost use Rattle.std.specs.Prelude.{◌≡◌};
+    ghost use Rattle.answers.specs.Refusals.{outcome_of};
+    ghost use Rattle.c_answers.specs.Numbers.{hop_numbers};
+
+    ghost from_gives = { λ answer numbers. numbers ≡ hop_numbers (outcome_of answer) };
+
+    fn from(answer: Result<u32, Refusal>) -> TdmaHop {
+        match answer {
+            Ok(arfcn) => TdmaHop { refusal: 0, arfcn },
+            Err(refusal) => TdmaHop {
+                refusal: refusal.number(),
+                arfcn: 0,
+            },
+        }
+    }
+}
+
+impl From<OnAir> for TdmaLine {
+    ghost use Rattle.std.specs.Prelude.{◌≡◌};
+    ghost use Rattle.c_answers.specs.Numbers.{on_air_numbers};
+
+    ghost from_gives = { λ on_air numbers. numbers ≡ on_air_numbers on_air };
+
+    #[tactic(auto, unfolding(maps::specs::Numbers::standing_numbers))]
+    fn from(on_air: OnAir) -> TdmaLine {
+        let idle = TdmaLine {
+            arfcn: on_air.arfcn,
+            owner: on_air.owner,
+            ..TdmaLine::default()
+        };
+        let Content::Channel(burst) = on_air.content else {
+            return idle;
+        };
+        let channel = u32::from(burst.kind);
+        let subchannel = burst.subchannel;
+        match burst.blocks {
+            Blocks::One(first) => TdmaLine {
+                channel,
+                subchannel,
+                blocks: 1,
+                block: first.block,
+                place: first.place,
+                ..idle
+            },
+            Blocks::Two(first, second) => TdmaLine {
+                channel,
+                subchannel,
+                blocks: 2,
+                block: first.block,
+                place: first.place,
+                block2: second.block,
+                place2: second.place,
+                ..idle
+            },
+        }
+    }
+}
+
+impl From<Result<OnAir, Refusal>> for TdmaLine {
+    ghost use Rattle.std.specs.Prelude.{◌≡◌};
+    ghost use Rattle.answers.specs.Refusals.{outcome_of};
+    ghost use Rattle.c_answers.specs.Numbers.{told_line};
+
+    ghost from_gives = { λ answer numbers. numbers ≡ told_line (outcome_of answer) };
+
+    fn from(answer: Result<OnAir, Refusal>) -> TdmaLine {
+        match answer {
+            Ok(on_air) => TdmaLine::from(on_air),
+            Err(refusal) => TdmaLine {
+                refusal: refusal.number(),
+                ..TdmaLine::default()
+            },
+        }
+    }
+}
+
+impl From<Result<Option<Found>, Refusal>> for TdmaWho {
+    ghost use Rattle.std.specs.Prelude.{◌≡◌};
+    ghost use Rattle.answers.specs.Refusals.{outcome_by, option_of};
+    ghost use Rattle.c_answers.specs.Numbers.{told_who};
+
+    ghost from_gives = { λ answer numbers. numbers ≡ told_who (outcome_by option_of answer) };
+
+    fn from(answer: Result<Option<Found>, Refusal>) -> TdmaWho {
+        match answer {
+            Ok(Some(found)) => TdmaWho {
+                refusal: 0,
+                found: 1,
+                line: found.line,
+                answer: TdmaLine::from(found.on_air),
+            },
+            Ok(None) => TdmaWho::default(),
+            Err(refusal) => TdmaWho {
+                refusal: refusal.number(),
+                ..TdmaWho::default()
+            },
+        }
+    }
+}
+
+impl From<Result<PagingBlock, Refusal>> for TdmaPage {
+    ghost use Rattle.std.specs.Prelude.{◌≡◌};
+    ghost use Rattle.answers.specs.Refusals.{outcome_of};
+    ghost use Rattle.c_answers.specs.Numbers.{page_numbers};
+
+    ghost from_gives = { λ answer numbers. numbers ≡ page_numbers (outcome_of answer) };
+
+    fn from(answer: Result<PagingBlock, Refusal>) -> TdmaPage {
+        match answer {
+            Ok(block) => TdmaPage {
+                refusal: 0,
+                tn: block.tn,
+                block: block.block,
+                frame: block.frame,
+            },
+            Err(refusal) => TdmaPage {
+                refusal: refusal.number(),
+                ..TdmaPage::default()
+            },
+        }
     }
 }

@@ -10,167 +10,179 @@ pub mod value;
 ghost use Rattle.std.proofs.Math.Option.{some};
 ghost use Rattle.std.specs.Prelude.{◌≡◌};
 ghost use Rattle.answers.specs.Outcome.{any_of};
-ghost use Rattle.answers.specs.Refusals.{refusal_of};
+ghost use Rattle.answers.specs.Refusals.{refusal_of, outcome_of};
 ghost use Rattle.rules.specs.Calls.{open_range, refused_cell, start_of, open_of, close_of, seize_of, release_of, changed};
-ghost use Rattle.cell.specs.Helpers.{pass_of};
+ghost use Rattle.cell.specs.Helpers.{subchannel_of};
 ghost use Rattle.cell.specs.Leaves.{Leaves};
 ghost use Rattle.rules.specs.Paging.{page_of};
 ghost use Rattle.storage.specs.Words.{cell_of};
-ghost use Rattle.paging.specs.Answers.{paged};
 
-use allocation::find;
-use answers::{Answer, Refusal};
+use allocation::lists;
+use answers::Refusal;
 use cell_allocation::is_allocation;
 use frame_map::is_combination;
+use groups::{CommonLines, PagingBlock};
 use masks::one_at_or_above;
-use paging::Paged;
 use placing::clash::in_the_way;
 use placing::common::{common_lines, has_combined, misplaced, needed};
-use storage::{WORDS, ag, combination_at, length, owner_at, p, put_line, put_owner, put_start};
+use rules::{Parameters, Values};
+use storage::{
+    CLOSED, WORDS, length, owner_at, parameters, put_line, put_owner, put_start, values_at,
+};
 use subchannels::{bad_owner, some_held, subchannels};
 
 // Refused, start leaves the cell of ARFCN 0.
-fn refuse_start(cell: &mut [u32; WORDS], refusal: Refusal) -> Answer
+fn refuse_start(cell: &mut [u32; WORDS], refusal: Refusal) -> Result<(), Refusal>
     ensures { changed result (cell_of cell.new) ≡ record { refusal = some (refusal_of refusal); cell = refused_cell } }
 {
-    let ca = [0u16];
-    put_start(cell, &ca, 0, 0, 0, 2);
-    Answer::Refused(refusal)
+    let least = Parameters {
+        c0: 0,
+        bcc: 0,
+        ag: 0,
+        p: 2,
+    };
+    put_start(cell, &[0], least);
+    Err(refusal)
 }
 
 // The words become a cell with this CA, C0, BCC, BS_AG_BLKS_RES and BS_PA_MFRMS, all lines closed.
-pub fn start(cell: &mut [u32; WORDS], ca: &[u16], c0: u32, bcc: u32, ag: u32, p: u32) -> Answer
-    ensures { changed result (cell_of cell.new) ≡ start_of ca.now c0 bcc ag p }
+#[tactic(auto, using(hops::proofs::Apart::at_most_64, storage::proofs::Storage::start_put), unfolding(rules::specs::Calls::start_of, answers::specs::Outcome::decide, answers::specs::Outcome::any_of))]
+pub fn start(cell: &mut [u32; WORDS], ca: &[u16], parameters: Parameters) -> Result<(), Refusal>
+    ensures { changed result (cell_of cell.new) ≡ start_of ca.now parameters.c0 parameters.bcc parameters.ag parameters.p }
 {
     if !is_allocation(ca) {
         return refuse_start(cell, Refusal::CellAllocation);
     }
-    if !(find(ca, c0) < ca.len()) | ((bcc > 7) | ((ag > 7) | ((p < 2) | (p > 9)))) {
+    let Parameters { c0, bcc, ag, p } = parameters;
+    if !lists(ca, c0) | ((bcc > 7) | ((ag > 7) | ((p < 2) | (p > 9)))) {
         return refuse_start(cell, Refusal::CellParameter);
     }
-    put_start(cell, ca, c0, bcc, ag, p);
-    Answer::Accepted
+    put_start(cell, ca, parameters);
+    Ok(())
 }
 
-fn out_of_range(line: u32, tn: u32, hsn: u32, combination: u32, tsc: u32) -> bool
-    ensures { result ≡ any_of (open_range line (record { tn = tn; mask = 0; hsn = hsn; maio = 0; combination = combination; tsc = tsc })) }
+// A request's numbers are wide, no enum and no narrower type, since a rule of the project wants odd ones to come in and be refused. Those
+// of a seize and a release, and of what is asked of a frame, come one by one: a struct of them would be taken apart at once.
+#[tactic(auto, unfolding(answers::specs::Outcome::any_of))]
+fn out_of_range(line: u32, values: Values) -> bool
+    ensures { result ≡ any_of (open_range line values) }
 {
+    let Values {
+        tn,
+        hsn,
+        combination,
+        tsc,
+        ..
+    } = values;
     (line > 63) | ((tn > 7) | ((hsn > 63) | (!is_combination(combination) | (tsc > 7))))
 }
 
 // Line `line` gets the six values.
-pub fn open(
-    cell: &mut [u32; WORDS],
-    line: u32,
-    tn: u32,
-    mask: u64,
-    hsn: u32,
-    maio: u32,
-    combination: u32,
-    tsc: u32,
-) -> Answer
-    ensures { Leaves result cell.old cell.new (open_of (cell_of cell.old) line (record { tn = tn; mask = mask; hsn = hsn; maio = maio; combination = combination; tsc = tsc })) }
+#[tactic(auto, using(hops::proofs::Bits::count_ones, rules::proofs::Lines::open_line), unfolding(rules::specs::Calls::open_of, answers::specs::Outcome::decide, answers::specs::Outcome::any_of))]
+pub fn open(cell: &mut [u32; WORDS], line: u32, values: Values) -> Result<(), Refusal>
+    ensures { Leaves result cell.old cell.new (open_of (cell_of cell.old) line values) }
 {
-    if out_of_range(line, tn, hsn, combination, tsc) {
-        return Answer::Refused(Refusal::OutOfRange);
+    if out_of_range(line, values) {
+        return Err(Refusal::OutOfRange);
     }
+    let Values { mask, maio, .. } = values;
     if (mask == 0) | one_at_or_above(mask, length(cell)) {
-        return Answer::Refused(Refusal::MobileAllocation);
+        return Err(Refusal::MobileAllocation);
     }
-    if maio >= u64::count_ones(mask) {
-        return Answer::Refused(Refusal::Maio);
+    if maio >= mask.count_ones() {
+        return Err(Refusal::Maio);
     }
     let n = line as usize;
-    if combination_at(cell, n) != 0 {
-        return Answer::Refused(Refusal::LineOpen);
+    if values_at(cell, n).combination != 0 {
+        return Err(Refusal::LineOpen);
     }
-    if misplaced(cell, tn, mask, combination, tsc) {
-        return Answer::Refused(Refusal::CommonChannel);
+    if misplaced(cell, values) {
+        return Err(Refusal::CommonChannel);
     }
-    let way = in_the_way(cell, tn, mask, hsn, maio);
-    if way < 64 {
-        return Answer::Refused(Refusal::Clash { line: way });
+    if let Some(line) = in_the_way(cell, values) {
+        return Err(Refusal::Clash { line });
     }
-    put_line(cell, n, tn, mask, hsn, maio, combination, tsc);
-    Answer::Accepted
+    put_line(cell, n, values);
+    Ok(())
 }
 
 // Line `line` is closed.
-pub fn close(cell: &mut [u32; WORDS], line: u32) -> Answer
+#[tactic(auto, unfolding(rules::specs::Calls::close_of, rules::specs::State::closed_line, answers::specs::Outcome::decide, answers::specs::Outcome::any_of))]
+pub fn close(cell: &mut [u32; WORDS], line: u32) -> Result<(), Refusal>
     ensures { Leaves result cell.old cell.new (close_of (cell_of cell.old) line) }
 {
     if line > 63 {
-        return Answer::Refused(Refusal::OutOfRange);
+        return Err(Refusal::OutOfRange);
     }
     let n = line as usize;
-    if combination_at(cell, n) == 0 {
-        return Answer::Refused(Refusal::LineClosed);
+    if values_at(cell, n).combination == 0 {
+        return Err(Refusal::LineClosed);
     }
     if needed(cell, n) {
-        return Answer::Refused(Refusal::CommonChannel);
+        return Err(Refusal::CommonChannel);
     }
     if some_held(cell, n) {
-        return Answer::Refused(Refusal::LineHeld);
+        return Err(Refusal::LineHeld);
     }
-    put_line(cell, n, 0, 0, 0, 0, 0, 0);
-    Answer::Accepted
+    put_line(cell, n, CLOSED);
+    Ok(())
 }
 
-// Subchannel s of line `line` passes from the owner `from` to the owner `to`, 0 for free. Where `from` is not its owner, the refusal is `other`.
-fn pass(
-    cell: &mut [u32; WORDS],
-    line: u32,
-    s: u32,
-    owner: u32,
-    from: u32,
-    to: u32,
-    other: Refusal,
-) -> Answer
-    ensures { Leaves result cell.old cell.new (pass_of (cell_of cell.old) line s owner from to (refusal_of other)) }
+// The owner of subchannel s of line `line`, which a call of `owner` may change: what seize and release have in common.
+#[tactic(auto, unfolding(answers::specs::Outcome::decide, answers::specs::Outcome::any_of))]
+fn owner_of_subchannel(cell: &[u32; WORDS], line: u32, s: u32, owner: u32) -> Result<u32, Refusal>
+    ensures { outcome_of result ≡ subchannel_of (cell_of cell.now) line s owner }
 {
     if (line > 63) | bad_owner(owner) {
-        return Answer::Refused(Refusal::OutOfRange);
+        return Err(Refusal::OutOfRange);
     }
     let n = line as usize;
-    let combination = combination_at(cell, n);
+    let combination = values_at(cell, n).combination;
     if combination == 0 {
-        return Answer::Refused(Refusal::LineClosed);
+        return Err(Refusal::LineClosed);
     }
     if s >= subchannels(combination) {
-        return Answer::Refused(Refusal::NoSubchannel);
+        return Err(Refusal::NoSubchannel);
     }
-    if owner_at(cell, n, s) != from {
-        return Answer::Refused(other);
-    }
-    put_owner(cell, n, s, to);
-    Answer::Accepted
+    Ok(owner_at(cell, n, s))
 }
 
 // Subchannel s of line `line`, if it is free, gets the owner.
-pub fn seize(cell: &mut [u32; WORDS], line: u32, s: u32, owner: u32) -> Answer
+#[tactic(auto, unfolding(rules::specs::Calls::seize_of, answers::specs::Outcome::decide, answers::specs::Outcome::any_of))]
+pub fn seize(cell: &mut [u32; WORDS], line: u32, s: u32, owner: u32) -> Result<(), Refusal>
     ensures { Leaves result cell.old cell.new (seize_of (cell_of cell.old) line s owner) }
 {
-    pass(cell, line, s, owner, 0, owner, Refusal::SubchannelHeld)
+    if owner_of_subchannel(cell, line, s, owner)? != 0 {
+        return Err(Refusal::SubchannelHeld);
+    }
+    put_owner(cell, line as usize, s, owner);
+    Ok(())
 }
 
 // Subchannel s of line `line`, if this owner holds it, is free again.
-pub fn release(cell: &mut [u32; WORDS], line: u32, s: u32, owner: u32) -> Answer
+#[tactic(auto, unfolding(rules::specs::Calls::release_of, answers::specs::Outcome::decide, answers::specs::Outcome::any_of))]
+pub fn release(cell: &mut [u32; WORDS], line: u32, s: u32, owner: u32) -> Result<(), Refusal>
     ensures { Leaves result cell.old cell.new (release_of (cell_of cell.old) line s owner) }
 {
-    pass(cell, line, s, owner, owner, 0, Refusal::NotHolder)
+    if owner_of_subchannel(cell, line, s, owner)? != owner {
+        return Err(Refusal::NotHolder);
+    }
+    put_owner(cell, line as usize, s, 0);
+    Ok(())
 }
 
 // The timeslot and CCCH block in which a phone with this IMSI is paged, one digit to a byte, and the first frame at or after `number` in which the
 // block begins.
-pub fn page(cell: &[u32; WORDS], digits: &[u8], number: u32) -> Paged
-    ensures { paged result ≡ page_of (cell_of cell.now) digits.now number }
+#[tactic(auto, unfolding(rules::specs::Paging::page_of))]
+pub fn page(cell: &[u32; WORDS], digits: &[u8], number: u32) -> Result<PagingBlock, Refusal>
+    ensures { outcome_of result ≡ page_of (cell_of cell.now) digits.now number }
 {
-    paging::page(
-        digits,
-        common_lines(cell),
-        has_combined(cell),
-        ag(cell),
-        p(cell),
-        number,
-    )
+    let Parameters { ag, p, .. } = parameters(cell);
+    let common = CommonLines {
+        lines: common_lines(cell),
+        combined: has_combined(cell),
+        ag,
+        p,
+    };
+    paging::page(digits, common, number)
 }

@@ -31,12 +31,5 @@ pub(crate) fn subchannels(combination: u32) -> u32
 pub(crate) fn some_held(cell: &[u32; WORDS], n: usize) -> bool
     ensures { result ≡ some_held (line_at (cell_of cell.now) n) }
 {
-    let mut s = 0;
-    while s < 8 {
-        if owner_at(cell, n, s) != 0 {
-            return true;
-        }
-        s += 1;
-    }
-    false
+    (0..8).any(|s| owner_at(cell, n, s) != 0)
 }

@@ -1,12 +1,8 @@
 -- Document 01, "Frame clock (4.3.3, 3.3.2.2)". Assumes nothing.
 use Rattle.std.specs.Prelude.{ℕ, ◌+◌, ◌*◌, ◌-◌, ◌/◌, ◌%◌, not, cond, List, [], ◌∷◌, ltb, eqb}
 use Rattle.std.proofs.Math.Option.{Option, none, some}
-use Rattle.answers.specs.Outcome.{Outcome, refused, accepted, Cause, cause, any_of, decide}
-use Rattle.answers.specs.Refusals.{refusal_of}
+use Rattle.answers.specs.Outcome.{Outcome, Cause, cause, any_of, decide}
 use Rattle.clock.specs.declared.Frame.{Frame}
-use Rattle.clock.specs.declared.Split as Split
-use Rattle.clock.specs.declared.Prime as Prime
-use Rattle.clock.specs.declared.Joined as Joined
 
 -- "FN is 0 to 2,715,647 and returns to 0"
 abbrev pub hyperframe : ℕ
@@ -46,16 +42,3 @@ join_causes t1 t2 t3 = cause 14 (ltb 2047 t1 ∷ ltb 25 t2 ∷ ltb 50 t3 ∷ [])
 
 abbrev pub join_of : ℕ → ℕ → ℕ → Outcome ℕ
 join_of t1 t2 t3 = decide (join_causes t1 t2 t3) (number_of t1 t2 t3)
-
--- what the answers of the code say
-abbrev pub split_says : Split.Split → Outcome Frame
-split_says (Split.TheVariants.Parts f) = accepted f
-split_says (Split.TheVariants.Refused e) = refused (refusal_of e)
-
-abbrev pub prime_says : Prime.Prime → Option ℕ
-prime_says (Prime.TheVariants.Given k) = some k
-prime_says Prime.TheVariants.NotGiven = none
-
-abbrev pub join_says : Joined.Joined → Outcome ℕ
-join_says (Joined.TheVariants.Number n) = accepted n
-join_says (Joined.TheVariants.Refused e) = refused (refusal_of e)

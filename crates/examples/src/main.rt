@@ -59,7 +59,7 @@ fn traffic(cell: &mut [u32; WORDS])
     expect_accepted(tdma_seize(cell, 5, 5, 77));
 }
 
-// The rows on hopping.
+// The rows on hopping. Each function of rows asks for the cell of `traffic`: its words are what C lends, so no type of the library holds that fact.
 fn arfcn_rows(cell: &[u32; WORDS])
     requires { cell_of cell.now ≡ sheet.traffic }
 {

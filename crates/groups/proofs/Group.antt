@@ -2,17 +2,13 @@
 use Prim.Native.Nat.{ℕ, ◌+◌, ◌*◌, ◌/◌, ◌%◌, ◌≤◌, ◌<◌}
 use mathlib.Core.Path.{◌≡◌, sym, ap, ◌∙◌, subst}
 use mathlib.Core.Bool.{cond}
-use native.Mathlib.Nat.{mod-lt, mod-le, mod-eq_of_lt, mod-mod_of_dvd, dvd-mul_left, mul-add-mod_self_right, div-add-mod', mul-add-div_right, mul_assoc, div-lt_iff_lt-mul, mul_comm, eq-zero-or-pos, zero-mul, mul-zero, mul-pos}
-use mathlib.Core.Logic.{⊎_elim}
+use native.Mathlib.Nat.{mod-lt, mod-le, mod-eq_of_lt, mod-mod_of_dvd, dvd-mul_left, mul-add-mod_self_right, div-add-mod', mul-add-div_right, mul_assoc, div-lt_iff_lt-mul, mul_comm, zero-mul, mul-zero, mul-pos, lt_of_mul-lt-mul_left, lt_of_mul-lt-mul_right}
 use native.Mathlib.Omega.{arith}
 use Rattle.groups.specs.Paging.{Common, A, n, r, G, block}
 
 -- a product is positive only if its factors are
 pub factors : (a b : ℕ) → 0 < a * b → (0 < a) × (0 < b)
-factors a b h = (
-  ⊎_elim (λ e. omega (arith, ap (λ (k : ℕ). k * b) e, zero-mul b)) (λ p. p) (eq-zero-or-pos a),
-  ⊎_elim (λ e. omega (arith, ap (λ (k : ℕ). a * k) e, mul-zero a)) (λ p. p) (eq-zero-or-pos b),
-)
+factors a b h = (lt_of_mul-lt-mul_right b (omega (arith, zero-mul b)), lt_of_mul-lt-mul_left a (omega (arith, mul-zero a)))
 
 pub remainder_divided : (x a p : ℕ) → 0 < a * p → x % (a * p) / a < p
 remainder_divided x a p h = (div-lt_iff_lt-mul (factors a p h).0).1 (subst (λ (k : ℕ). x % (a * p) < k) (mul_comm a p) (mod-lt x h))

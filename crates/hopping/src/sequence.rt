@@ -13,40 +13,30 @@ const RNTABLE: [u8; 114] = [
     49, 7, 79, 119, 61, 22, 84, 9, 97, 91, 15, 21, 24, 46, 39, 93, 105, 65, 70, 125, 99, 17, 123,
 ];
 
-fn wide(x: u8) -> u32
-    ensures { result ≡ x }
-{
-    x as u32
-}
-
 // x mod n, for x below twice n: a subtraction at most.
 fn wrapped(x: u32, n: u32) -> u32
     requires { x < n + n }
     ensures { result ≡ x % n }
 {
-    if x < n {
-        return x;
-    }
-    x - n
+    if x < n { x } else { x - n }
 }
 
-// S of the frame with these counters. 2 to the power of NBIN is `room`. Both cases are computed: which it is hangs on the frame, and cannot be foreseen.
-fn s(n: u32, hsn: u32, t1: u32, t2: u32, t3: u32) -> u32
-    requires { (0 < n) × (n ≤ 64) × (hsn < 64) × (t2 ≤ 25) × (t3 ≤ 50) }
-    ensures { result ≡ S n hsn (record { t1 = t1; t2 = t2; t3 = t3 }) }
+// S of a frame. 2 to the power of NBIN is `room`. Both cases are computed: which it is hangs on the frame, and cannot be foreseen.
+#[tactic(auto, using(hops::proofs::Mai::index_lt, hops::proofs::Mai::nbin_le, crate::proofs::Computed::nbin_leading, crate::proofs::Computed::room_pos, crate::proofs::Computed::room_le, crate::proofs::Computed::twice_once, crate::proofs::Computed::s_below, crate::proofs::Computed::s_above), unfolding(hops::specs::Hopping::rntable))]
+fn s(n: u32, hsn: u32, frame: Frame) -> u32
+    requires { (0 < n) × (n ≤ 64) × (hsn < 64) × (frame.t2 ≤ 25) × (frame.t3 ≤ 50) }
+    ensures { result ≡ S n hsn frame }
 {
-    let index = (hsn ^ (t1 % 64)) + t3;
-    let m = t2 + wide(RNTABLE[index as usize]);
-    let room = 1u32 << (32 - u32::leading_zeros(n));
+    let index = (hsn ^ (frame.t1 % 64)) + frame.t3;
+    let m = frame.t2 + u32::from(RNTABLE[index as usize]);
+    let room = 1u32 << (32 - n.leading_zeros());
     let reduced = m % room;
-    let other = wrapped(wrapped(reduced + t3 % room, 2 * n), n);
-    if reduced < n {
-        return reduced;
-    }
-    other
+    let other = wrapped(wrapped(reduced + frame.t3 % room, 2 * n), n);
+    if reduced < n { reduced } else { other }
 }
 
 // MAI of frame FN, whose counters are `frame`.
+#[tactic(auto, using(hops::proofs::Mai::s_lt, hops::proofs::Mai::mai_cyclic, hops::proofs::Mai::mai_random))]
 pub(crate) fn mai(n: u32, hsn: u32, maio: u32, number: u32, frame: Frame) -> u32
     requires { (n ≤ 64) × (hsn < 64) × (maio < n) × (number < hyperframe) × (frame ≡ parts_of number) }
     ensures { result ≡ mai_of n hsn maio number }
@@ -54,8 +44,5 @@ pub(crate) fn mai(n: u32, hsn: u32, maio: u32, number: u32, frame: Frame) -> u32
     if hsn == 0 {
         return (number + maio) % n;
     }
-    let t1 = frame.t1;
-    let t2 = frame.t2;
-    let t3 = frame.t3;
-    wrapped(s(n, hsn, t1, t2, t3) + maio, n)
+    wrapped(s(n, hsn, frame) + maio, n)
 }

@@ -28,7 +28,7 @@ module _ (row : Row) (size count : ℕ) (long : length row ≡ size) (wide : roo
       }
 
 -- with no other cause
-plain : (row : Row) (size count : ℕ) → length row ≡ size → room row ≡ count → Sizes row size count (build_of row) (take_of row)
+pub plain : (row : Row) (size count : ℕ) → length row ≡ size → room row ≡ count → Sizes row size count (build_of row) (take_of row)
 unfolding build_of take_of
 plain row size count long wide = sizes row size count long wide (build_causes row) (take_causes row)
 

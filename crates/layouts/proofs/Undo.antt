@@ -12,7 +12,8 @@ use lib.Seq.{get_or-drop}
 use borrow.Author.Tests.{le-ltb, eq-eqb, eqb-true, not-true, not-false}
 use Rattle.answers.specs.Outcome.{Cause, decide}
 use Rattle.answers.specs.Search.{any_below}
-use Rattle.answers.specs.declared.Answer.{Answer}
+use Rattle.std.specs.Prelude.{Result, Ok, Err}
+use Rattle.answers.specs.declared.Refusal.{Refusal}
 use Rattle.answers.specs.Refusals.{refusal_in}
 use Rattle.answers.specs.Claims.{NoCause}
 use Rattle.answers.proofs.Search.{any_at, any_none}
@@ -188,14 +189,14 @@ normal_bits tsc = simp bit_is_bit
 
 -- ---- the code, by its promises
 
-accepted_answer : (s : Answer) → refusal_in s ≡ none → s ≡ Answer.Accepted
-accepted_answer Answer.Accepted e = refl
-accepted_answer (Answer.Refused r) e = cc
+accepted_answer : (s : Result Unit Refusal) → refusal_in s ≡ none → s ≡ Ok tt
+accepted_answer (Ok tt) e = refl
+accepted_answer (Err r) e = cc
 
 -- g after f gives back what f read
 undone_by_code : (f g : Call) → ((x before lent : List ℕ) → (f x before).refusal ≡ none → length lent ≡ length x → g (f x before).bytes lent ≡ done x)
-    → (x before y lent after : List ℕ) (r s : Answer) → wrote r y ≡ f x before → wrote s after ≡ g y lent → r ≡ Answer.Accepted → length lent ≡ length x
-    → (s ≡ Answer.Accepted) × (after ≡ x)
+    → (x before y lent after : List ℕ) (r s : Result Unit Refusal) → wrote r y ≡ f x before → wrote s after ≡ g y lent → r ≡ Ok tt → length lent ≡ length x
+    → (s ≡ Ok tt) × (after ≡ x)
 undone_by_code f g undoes x before y lent after r s fr gs ok same =
     let e : (f x before).refusal ≡ none = sym (ap (λ (w : Written). w.refusal) fr) ∙ ap refusal_in ok in
     let q : wrote s after ≡ done x = gs ∙ (ap (λ (w : Written). g w.bytes lent) fr ∙ undoes x before lent e same) in

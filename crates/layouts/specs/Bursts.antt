@@ -1,7 +1,7 @@
 -- What building a burst and taking it apart come to: document 01, "Bursts (5.2)" and refusals 3, 14 and 15. Assumes nothing.
-use Rattle.std.specs.Prelude.{ℕ, Bool, not, List, [], ◌∷◌, ltb, eqb, length, get_or}
+use Rattle.std.specs.Prelude.{ℕ, Bool, not, List, [], ◌∷◌, Result, ltb, eqb, length, get_or}
 use Rattle.std.proofs.Math.Option.{Option, none, some}
-use Rattle.answers.specs.declared.Answer.{Answer}
+use Rattle.answers.specs.declared.Refusal.{Refusal}
 use Rattle.answers.specs.Outcome.{Refused, Outcome, refused, accepted, Cause, cause, decide}
 use Rattle.answers.specs.Refusals.{refusal_in}
 use Rattle.answers.specs.Search.{any_below, least}
@@ -21,7 +21,7 @@ written before (refused r) = record { refusal = some r; bytes = before }
 written before (accepted after) = record { refusal = none; bytes = after }
 
 -- what the code's answer says, with the lent bytes
-abbrev pub wrote : Answer → List ℕ → Written
+abbrev pub wrote : Result Unit Refusal → List ℕ → Written
 wrote answer bytes = record { refusal = refusal_in answer; bytes = bytes }
 
 -- ---- the causes
@@ -43,6 +43,10 @@ fixed_bit row burst =
 -- "3 .. TSC .. out of range" ("TSC (training code) 0–7")
 abbrev pub no_code : ℕ → Cause
 no_code tsc = cause 3 (ltb 7 tsc ∷ [])
+
+-- the row of a normal burst, or the refusal of its TSC
+abbrev pub normal_of : ℕ → Outcome Row
+normal_of tsc = decide (no_code tsc ∷ []) (row_of (normal tsc))
 
 abbrev pub build_causes : Row → List ℕ → List ℕ → List Cause
 build_causes row payload burst = malformed row burst payload payload ∷ []

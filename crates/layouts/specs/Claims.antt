@@ -1,11 +1,10 @@
 -- What is claimed of the bursts beside the promises of the calls. Assumes nothing.
-use Rattle.std.specs.Prelude.{ℕ, ◌+◌, ◌*◌, ◌^◌, ◌<◌, ◌≤◌, ◌≡◌, true, false, List, [], ◌∷◌, length, take, drop, get_or}
+use Rattle.std.specs.Prelude.{ℕ, ◌+◌, ◌*◌, ◌^◌, ◌<◌, ◌≤◌, ◌≡◌, true, false, List, [], ◌∷◌, length, take, drop, get_or, Result, Ok}
 use Rattle.std.proofs.Math.Option.{none, some}
 use mathlib.Core.List.{Memᴰ}
 use Rattle.answers.specs.Outcome.{Refused, Cause, any_of}
 use Rattle.answers.specs.Claims.{Caused, NoCause}
-use Rattle.answers.specs.declared.Answer.{Answer}
-use Rattle.answers.specs.declared.Answer.TheVariants.{Accepted}
+use Rattle.answers.specs.declared.Refusal.{Refusal}
 use Rattle.layouts.specs.Layouts.{codes, training, normal, frequency_correction, synchronization, dummy, access}
 use Rattle.layouts.specs.Rows.{Row, row_of, room, built, taken, differs}
 use Rattle.layouts.specs.Bursts.{Written, wrote, no_code, build_causes, take_causes, build_of, take_of, build_normal_of, take_normal_of, build_synchronization_of, take_synchronization_of, build_access_of, take_access_of}
@@ -30,10 +29,10 @@ pub record UndoEachOther (build take : Call) : Type 0 where
 
 -- the same of the code, by its promises: r and s are the answers of two calls, one after the other, and the bytes are what those left
 pub record UndoEachOtherByCode (build take : Call) : Type 0 where
-  pub take_undoes_build : (payload before burst lent after : List ℕ) (r s : Answer) → wrote r burst ≡ build payload before → wrote s after ≡ take burst lent
-      → r ≡ Accepted → length lent ≡ length payload → (s ≡ Accepted) × (after ≡ payload)
-  pub build_undoes_take : (burst before payload lent after : List ℕ) (r s : Answer) → wrote r payload ≡ take burst before → wrote s after ≡ build payload lent
-      → r ≡ Accepted → length lent ≡ length burst → (s ≡ Accepted) × (after ≡ burst)
+  pub take_undoes_build : (payload before burst lent after : List ℕ) (r s : Result Unit Refusal) → wrote r burst ≡ build payload before → wrote s after ≡ take burst lent
+      → r ≡ Ok tt → length lent ≡ length payload → (s ≡ Ok tt) × (after ≡ payload)
+  pub build_undoes_take : (burst before payload lent after : List ℕ) (r s : Result Unit Refusal) → wrote r payload ≡ take burst before → wrote s after ≡ build payload lent
+      → r ≡ Ok tt → length lent ≡ length burst → (s ≡ Ok tt) × (after ≡ burst)
 
 pub record RoundTrips : Type 0 where
   pub normal : (tsc : ℕ) → UndoEachOther (build_normal_of tsc) (take_normal_of tsc)

@@ -1,16 +1,14 @@
 -- When `map` is refused: the range of each number. Assumes nothing.
 use Prim.Native.Nat.{ℕ, ◌<◌}
-use mathlib.Core.Path.{◌≡◌, refl, sym, ap, ◌∙◌, subst}
+use mathlib.Core.Path.{◌≡◌, refl, sym, ◌∙◌, subst}
 use mathlib.Core.List.{List}
-use mathlib.Core.Bool.{Bool, true, false, not, ◌||◌}
+use mathlib.Core.Bool.{Bool, true, false, not}
 use native.Mathlib.Omega.{arith}
-use lib.Dec.{eqb, ltb}
-use borrow.Author.Tests.{eqb-true, eqb-false, ne_eqb, ltb-true, ltb-false, not-true, not-false}
+use lib.Dec.{ltb}
+use borrow.Author.Tests.{ne_eqb, ltb-true, ltb-false}
 use Rattle.answers.specs.Outcome.{Outcome, alone, refused, accepted, any_of}
-use Rattle.answers.specs.Search.{all_below}
-use Rattle.answers.proofs.Search.{all_at}
 use Rattle.answers.proofs.Decide.{holds_none, first, rest, accepts}
-use Rattle.answers.proofs.Tests.{or_none, or_rest, refute, not_both}
+use Rattle.answers.proofs.Tests.{refute, not_both}
 use Rattle.maps.specs.Channels.{Standing}
 use Rattle.maps.specs.Combinations.{combinations, among, is_combination, rows_of}
 use Rattle.maps.specs.Map.{out_of_range, map_of}
@@ -32,24 +30,6 @@ combination_zero c e = rw e refl
 pub combination_three : (c : ℕ) → c ≡ 3 → not (is_combination c) ≡ true
 unfolding combinations among
 combination_three c e = rw e refl
-
-eight_tested : all_below (λ (k : ℕ). (eqb k 0 || eqb k 3) || is_combination k) 8 ≡ true
-unfolding combinations among all_below
-eight_tested = refl
-
-pub combination_known : (c : ℕ) → c < 8 → (c ≡ 0 → ⊥) → (c ≡ 3 → ⊥) → not (is_combination c) ≡ false
-combination_known c h y z =
-    ap not
-    (or_rest (eqb c 0 || eqb c 3) _ (or_none (ne_eqb c 0 y) (ne_eqb c 3 z))
-    (all_at (λ (k : ℕ). (eqb k 0 || eqb k 3) || is_combination k) 8 eight_tested c h))
-
--- with the others passed, only combination 0 is left
-pub combination_last : (c : ℕ) → c < 8 → (c ≡ 3 → ⊥) → not (eqb c 0) ≡ is_combination c
-combination_last c h z = go (eqb c 0) refl
-  where
-    go : (t : Bool) → eqb c 0 ≡ t → not t ≡ is_combination c
-    go true q = sym (not-true _ (combination_zero c (eqb-true c 0 q)))
-    go false q = sym (not-false _ (combination_known c h (eqb-false c 0 q) z))
 
 -- ---- the numbers of a request that is not refused
 

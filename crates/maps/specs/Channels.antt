@@ -1,5 +1,7 @@
 -- What stands in a frame: a logical channel, its subchannel, and the block and place of the burst. Assumes nothing.
-use Rattle.std.specs.Prelude.{ℕ, Bool, true, false, cond, eqb}
+use Rattle.std.specs.Prelude.{ℕ, ◌≡◌, ◌≢◌, Result, MatchResult, Bool, true, false, cond, eqb}
+use Rattle.answers.specs.declared.Refusal.{Refusal}
+use Rattle.answers.specs.declared.Refusal.TheVariants.{OutOfRange}
 use Rattle.maps.specs.declared.Kind.{Kind}
 use Rattle.maps.specs.declared.Kind.TheVariants.{Tch, Sacch, Sdcch, Fcch, Sch, Bcch, Ccch, Rach}
 
@@ -20,6 +22,10 @@ kind_at n =
     cond (eqb n 1) Tch
     (cond (eqb n 2) Sacch
     (cond (eqb n 3) Sdcch (cond (eqb n 4) Fcch (cond (eqb n 5) Sch (cond (eqb n 6) Bcch (cond (eqb n 7) Ccch Rach))))))
+
+-- the result is the kind with this number, or the refusal of a number that no kind has
+abbrev pub IsKindOf : ℕ → Result Kind Refusal → Type 0
+IsKindOf n r = MatchResult r (λ kind. kind_number kind ≡ n) (λ e. (e ≡ OutOfRange) × ((kind : Kind) → kind_number kind ≢ n))
 
 -- "The common part of a line is its FCCH, SCH, BCCH, CCCH and RACH frames."
 abbrev pub is_common : Kind → Bool

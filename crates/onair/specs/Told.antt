@@ -1,12 +1,13 @@
 -- What the code's answers say. Assumes nothing.
-use Rattle.std.specs.Prelude.{ℕ}
-use Rattle.std.proofs.Math.Option.{Option, none, some}
-use Rattle.answers.specs.Outcome.{Outcome, refused, accepted}
-use Rattle.answers.specs.Refusals.{refusal_of}
+use Rattle.std.specs.Prelude.{ℕ, Result}
+use Rattle.std.specs.Prelude.{Option as MayBe}
+use Rattle.std.proofs.Math.Option.{Option}
+use Rattle.answers.specs.Outcome.{Outcome}
+use Rattle.answers.specs.Refusals.{outcome_by, option_by}
+use Rattle.answers.specs.declared.Refusal.{Refusal}
 use Rattle.maps.specs.Map.{carried}
-use Rattle.onair.specs.declared.OnAir.{OnAir}
-use Rattle.onair.specs.declared.Aired.{Aired}
-use Rattle.onair.specs.declared.Sought.{Sought}
+use Rattle.maps.specs.declared.OnAir.{OnAir}
+use Rattle.maps.specs.declared.Found.{Found}
 use Rattle.rules.specs.OnAir.{Slot}
 use Rattle.rules.specs.Who.{Match}
 
@@ -14,18 +15,13 @@ use Rattle.rules.specs.Who.{Match}
 abbrev pub slot_in : OnAir → Slot
 slot_in a = record { arfcn = a.arfcn; standing = carried a.content; owner = a.owner }
 
-abbrev pub aired : Aired → Outcome Slot
-aired (Aired.Line a) = accepted (slot_in a)
-aired (Aired.Refused r) = refused (refusal_of r)
-
 -- the line that is named, and what it sends
-abbrev pub sought : Sought → Outcome (Option Match)
-sought (Sought.Line f) = accepted (some (record { line = f.line; slot = slot_in f.on_air }))
-sought Sought.Nobody = accepted none
-sought (Sought.Refused r) = refused (refusal_of r)
+abbrev pub match_in : Found → Match
+match_in f = record { line = f.line; slot = slot_in f.on_air }
+
+abbrev pub sought : Result (MayBe Found) Refusal → Outcome (Option Match)
+sought = outcome_by (option_by match_in)
 
 -- the line that is named
-abbrev pub line_sought : Sought → Outcome (Option ℕ)
-line_sought (Sought.Line f) = accepted (some f.line)
-line_sought Sought.Nobody = accepted none
-line_sought (Sought.Refused r) = refused (refusal_of r)
+abbrev pub line_sought : Result (MayBe Found) Refusal → Outcome (Option ℕ)
+line_sought = outcome_by (option_by (λ f. f.line))

@@ -1,12 +1,9 @@
 -- What the helpers of the code compute. No part of what is promised to a caller. Assumes nothing.
-use Rattle.std.specs.Prelude.{Bool}
-use Rattle.placing.specs.declared.common.Wanted.{Wanted}
-use Rattle.placing.specs.declared.common.Wanted.TheVariants.{Common, Of, In}
-use Rattle.rules.specs.State.{LineState}
-use Rattle.rules.specs.Calls.{is_common_line, has_combination, stands_in}
+use Rattle.std.specs.Prelude.{ℕ, ◌<◌, ◌≡◌, Bool, true, false}
+use Rattle.rules.specs.State.{Cell, line_at, values_of}
+use Rattle.rules.specs.declared.Values.{Values}
 
--- which lines `any_line` looks for
-abbrev pub wants : Wanted → LineState → Bool
-wants Common l = is_common_line l
-wants (Of combination) l = has_combination combination l
-wants (In combination tn) l = stands_in combination tn l
+-- found tells whether some line passes a test, of which it is known what it answers
+pub record Finds (c : Cell) (Answers : Values → Bool → Type 0) (found : Bool) : Type 0 where
+  pub some_line : found ≡ true → (n : ℕ) × (n < 64) × Answers (values_of (line_at c n)) true
+  pub no_line : found ≡ false → (n : ℕ) → n < 64 → Answers (values_of (line_at c n)) false

@@ -1,115 +1,72 @@
 // Where a common channel may stand (refusal 8), and the common lines as paging counts them.
-ghost use Rattle.std.specs.Prelude.{cond, ◌≡◌, ◌-◌};
+ghost use Rattle.std.specs.Prelude.{◌≡◌};
 ghost use Rattle.answers.specs.Outcome.{any_of};
 ghost use Rattle.rules.specs.Calls.{any_line, has_combination, misplaced, is_common_combination, has_c0, c0_alone, needed};
-ghost use Rattle.placing.specs.Helpers.{wants};
 ghost use Rattle.rules.specs.Paging.{common_lines};
 ghost use Rattle.rules.specs.State.{line_at};
 ghost use Rattle.storage.specs.Words.{cell_of};
+ghost use Rattle.placing.specs.Helpers.{Finds};
 
 use masks::contains;
-use storage::{WORDS, ag, bcc, c0, combination_at, entry, tn_at};
-
-// A line that is looked for.
-#[derive(Clone, Copy)]
-pub enum Wanted {
-    // Of combination 4, 5 or 6.
-    Common,
-    // Of this combination.
-    Of(u32),
-    // Of this combination, in this timeslot.
-    In(u32, u64),
-}
-
-fn wide(n: u32) -> u64
-    ensures { result ≡ n }
-{
-    n as u64
-}
+use rules::Values;
+use storage::{WORDS, entry, parameters, values_at};
 
 fn is_common_combination(combination: u32) -> bool
     ensures { result ≡ is_common_combination combination }
 {
-    (combination == 4) | (combination == 5) | (combination == 6)
+    matches!(combination, 4 | 5 | 6)
 }
 
-// Line n is wanted.
-fn is_wanted(cell: &[u32; WORDS], n: usize, w: Wanted) -> bool
-    ensures { result ≡ wants w (line_at (cell_of cell.now) n) }
+// Some line passes the test.
+fn any_line<F: Fn(Values) -> bool>(cell: &[u32; WORDS], test: F) -> bool
+    requires { F.IsAlwaysCallable test }
+    ensures { Finds (cell_of cell.now) (λ v passes. F.post test v passes) result }
 {
-    let combination = combination_at(cell, n);
-    let tn = wide(tn_at(cell, n));
-    match w {
-        Wanted::Common => is_common_combination(combination),
-        Wanted::Of(k) => combination == k,
-        Wanted::In(k, t) => (combination == k) & (tn == t),
-    }
-}
-
-// Some line is wanted.
-fn any_line(cell: &[u32; WORDS], w: Wanted) -> bool
-    ensures { result ≡ any_line (cell_of cell.now) (wants w) }
-{
-    let mut n = 0;
-    while n < 64 {
-        if is_wanted(cell, n, w) {
-            return true;
-        }
-        n += 1;
-    }
-    false
+    (0..64).any(|n| test(values_at(cell, n)))
 }
 
 // Some one of the mask stands for C0.
 fn has_c0(cell: &[u32; WORDS], mask: u64) -> bool
     ensures { result ≡ has_c0 (cell_of cell.now) mask }
 {
-    let beacon = c0(cell);
-    let mut p = 0;
-    while p < 64 {
-        if contains(mask, p) & (entry(cell, p) == beacon) {
-            return true;
-        }
-        p += 1;
-    }
-    false
+    let c0 = parameters(cell).c0;
+    (0..64).any(|p| contains(mask, p) & (entry(cell, p) == c0))
 }
 
 // The mask has C0 alone.
+#[tactic(auto, using(hops::proofs::Bits::count_ones))]
 fn c0_alone(cell: &[u32; WORDS], mask: u64) -> bool
     ensures { result ≡ c0_alone (cell_of cell.now) mask }
 {
-    (u64::count_ones(mask) == 1) & has_c0(cell, mask)
-}
-
-// The timeslot two lower; 0 where there is none.
-fn lower(tn: u32) -> u64
-    ensures { result ≡ tn - 2 }
-{
-    if tn < 2 {
-        return 0;
-    }
-    (tn - 2) as u64
+    (mask.count_ones() == 1) & has_c0(cell, mask)
 }
 
 // A line with these values would be a common channel out of its place.
-pub fn misplaced(cell: &[u32; WORDS], tn: u32, mask: u64, combination: u32, tsc: u32) -> bool
-    ensures { result ≡ any_of (misplaced (cell_of cell.now) (record { tn = tn; mask = mask; hsn = 0; maio = 0; combination = combination; tsc = tsc })) }
+pub fn misplaced(cell: &[u32; WORDS], values: Values) -> bool
+    ensures { result ≡ any_of (misplaced (cell_of cell.now) values) }
 {
+    let Values {
+        tn,
+        combination,
+        ..
+    } = values;
     let common = is_common_combination(combination);
     if !common {
         return false;
     }
     let first = (combination == 4) | (combination == 5);
     let six = combination == 6;
-    let first_elsewhere = first & !(tn == 0);
+    let first_elsewhere = first & (tn != 0);
     let six_elsewhere = six & !((tn == 2) | (tn == 4) | (tn == 6));
-    let other_mask = common & !c0_alone(cell, mask);
-    let other_code = common & !(tsc == bcc(cell));
-    let second = first & any_line(cell, Wanted::Common);
-    let reserved = (combination == 5) & (ag(cell) > 2);
-    let no_first = six & (tn == 2) & !any_line(cell, Wanted::Of(4));
-    let no_six = six & ((tn == 4) | (tn == 6)) & !any_line(cell, Wanted::In(6, lower(tn)));
+    let other_mask = common & !c0_alone(cell, values.mask);
+    let other_code = common & (values.tsc != parameters(cell).bcc);
+    let second = first & any_line(cell, |line| is_common_combination(line.combination));
+    let reserved = (combination == 5) & (parameters(cell).ag > 2);
+    let no_first = six & (tn == 2) & !any_line(cell, |line| line.combination == 4);
+    let lower = tn.saturating_sub(2);
+    let no_six = six
+        & ((tn == 4) | (tn == 6))
+        & !any_line(cell, |line| (line.combination == 6) & (line.tn == lower));
     first_elsewhere
         | (six_elsewhere
             | (other_mask | (other_code | (second | (reserved | (no_first | no_six))))))
@@ -119,39 +76,26 @@ pub fn misplaced(cell: &[u32; WORDS], tn: u32, mask: u64, combination: u32, tsc:
 pub fn needed(cell: &[u32; WORDS], n: usize) -> bool
     ensures { result ≡ needed (cell_of cell.now) (line_at (cell_of cell.now) n) }
 {
-    let combination = combination_at(cell, n);
-    let higher = wide(tn_at(cell, n)) + 2;
-    if !((combination == 4) | (combination == 6)) {
-        return false;
-    }
-    any_line(cell, Wanted::In(6, higher))
-}
-
-fn one_if(common: bool) -> u32
-    ensures { result ≡ cond common 1 0 }
-{
-    if common {
-        return 1;
-    }
-    0
+    let line = values_at(cell, n);
+    let higher = u64::from(line.tn) + 2;
+    ((line.combination == 4) | (line.combination == 6))
+        && any_line(cell, |other| {
+            (other.combination == 6) & (u64::from(other.tn) == higher)
+        })
 }
 
 // How many open lines are of combination 4, 5 or 6.
 pub fn common_lines(cell: &[u32; WORDS]) -> u32
     ensures { result ≡ common_lines (cell_of cell.now) }
 {
-    let mut count = 0;
-    let mut n = 0;
-    while n < 64 {
-        count += one_if(is_common_combination(combination_at(cell, n)));
-        n += 1;
-    }
-    count
+    (0..64)
+        .filter(|n| is_common_combination(values_at(cell, *n).combination))
+        .count() as u32
 }
 
 // Some open line is of combination 5.
 pub fn has_combined(cell: &[u32; WORDS]) -> bool
     ensures { result ≡ any_line (cell_of cell.now) (has_combination 5) }
 {
-    any_line(cell, Wanted::Of(5))
+    any_line(cell, |line| line.combination == 5)
 }

@@ -1,197 +1,217 @@
-// What each answer of the program `schedule` reads like, written to a lent buffer from a place on; the result is where it ends.
-#![tactic(auto)]
+// What each answer of the program `schedule` reads like, written to a buffer of fixed size behind what stands there.
+#![tactic(auto, using(crate::proofs::Texts::in_turn))]
 
-ghost use Rattle.std.specs.Prelude.{◌≡◌, cond, ltb, ◌≤◌, length};
-ghost use Rattle.wording.specs.Print.{Appended};
-ghost use Rattle.wording.specs.Replies.{has_value, refused_text, numbers_text, split_text, channel_text, content_text, map_text, slot_text, line_text, who_text, bits_text, reason_text, error_text};
+#[cfg(test)]
+mod tests;
 
-use c_answers::{TdmaAnswer, TdmaLine, TdmaMap, TdmaSplit, TdmaWho};
+ghost use Rattle.std.specs.Prelude.{ℕ, None, List, [], ◌∷◌, ◌++◌, ◌≡◌, map};
+ghost use Rattle.wording.specs.Words.{ascii};
+ghost use Rattle.wording.specs.Print.{written, spaced, bit_character};
+ghost use Rattle.wording.specs.Replies.{refused_text, answered, parts_text, paging_text, channel_text, place_text, blocks_text, owner_text, content_text, slot_text, found_text, reason_text, error_text};
+
+use answers::Refusal;
+use arrayvec::ArrayVec;
+use clock::Frame;
+use groups::PagingBlock;
+use maps::{Blocks, Content, Found, Kind, OnAir, Place};
 use text::print::{put, put_bits, put_number, put_numbers};
+use wording::Reason;
 
-fn has_value(refusal: u32) -> bool
-    ensures { result ≡ has_value refusal }
-{
-    (refusal == 9) | (refusal == 15)
+// What an accepted call gives, as it is printed behind "ok".
+pub trait Reply<const N: usize> {
+    ghost text: { Self → List ℕ };
+
+    fn print(self, out: &mut ArrayVec<u8, N>)
+        ensures { out.new.items ≡ written N out.old.items (text self) };
 }
 
-// A refusal, and the value that comes with 9 and 15.
-fn refused(out: &mut [u8], at: usize, refusal: u32, value: u32) -> usize
-    ensures { Appended out.old at out.new result (refused_text refusal value) }
-{
-    let end = put(out, at, b"refused");
-    if has_value(refusal) {
-        let end = put_numbers(out, end, &[refusal, value]);
-        return put(out, end, b"\n");
+// Nothing but "ok".
+impl<const N: usize> Reply<N> for () {
+    ghost text = { λ u. [] };
+
+    fn print(self, out: &mut ArrayVec<u8, N>) {}
+}
+
+// A frame number or an ARFCN.
+impl<const N: usize> Reply<N> for u32 {
+    ghost text = { λ n. spaced (n ∷ []) };
+
+    fn print(self, out: &mut ArrayVec<u8, N>) {
+        put_numbers(out, &[self]);
     }
-    let end = put_numbers(out, end, &[refusal]);
-    put(out, end, b"\n")
 }
 
-// An answer of numbers, none to any, or a refusal.
-pub fn numbers(out: &mut [u8], at: usize, refusal: u32, value: u32, list: &[u32]) -> usize
-    ensures { Appended out.old at out.new result (numbers_text refusal value list.now) }
-{
-    if refusal != 0 {
-        return refused(out, at, refusal, value);
+impl<const N: usize> Reply<N> for PagingBlock {
+    ghost text = { paging_text };
+
+    fn print(self, out: &mut ArrayVec<u8, N>) {
+        put_numbers(out, &[self.tn, self.block, self.frame]);
     }
-    let end = put(out, at, b"ok");
-    let end = put_numbers(out, end, list);
-    put(out, end, b"\n")
 }
 
-pub fn split(out: &mut [u8], at: usize, a: TdmaSplit) -> usize
-    ensures { Appended out.old at out.new result (split_text a) }
-{
-    if a.refusal != 0 {
-        return refused(out, at, a.refusal, 0);
+impl<const N: usize> Reply<N> for Frame {
+    ghost text = { parts_text };
+
+    fn print(self, out: &mut ArrayVec<u8, N>) {
+        put_numbers(out, &[self.t1, self.t2, self.t3]);
+        match self.prime() {
+            Some(prime) => put_numbers(out, &[prime]),
+            None => put(out, b" -"),
+        }
     }
-    let end = put(out, at, b"ok");
-    let end = put_numbers(out, end, &[a.t1, a.t2, a.t3]);
-    if a.given != 1 {
-        return put(out, end, b" -\n");
+}
+
+impl<const N: usize> Reply<N> for Content {
+    ghost text = { λ c. content_text c None };
+
+    fn print(self, out: &mut ArrayVec<u8, N>) {
+        content(out, self, None);
     }
-    let end = put_numbers(out, end, &[a.prime]);
-    put(out, end, b"\n")
 }
 
-// A number that has a name among eight, or else 0.
-fn named(number: u32) -> usize
-    ensures { (result ≤ 8) × (result ≡ cond (ltb 8 number) 0 number) }
-{
-    if number > 8 {
-        return 0;
+impl<const N: usize> Reply<N> for OnAir {
+    ghost text = { slot_text };
+
+    fn print(self, out: &mut ArrayVec<u8, N>) {
+        put_numbers(out, &[self.arfcn]);
+        content(out, self.content, Some(self.owner));
     }
-    number as usize
 }
 
-// How many letters the name of a channel has.
-pub fn channel_width(number: u32) -> usize
-    ensures { (result ≤ 5) × (result ≡ length (channel_text number)) }
-{
-    let widths = [0usize, 3, 5, 5, 4, 3, 4, 4, 4];
-    widths[named(number)]
-}
+impl<const N: usize> Reply<N> for Option<Found> {
+    ghost text = { found_text };
 
-// The name of a channel; none has another number.
-pub fn channel(out: &mut [u8], at: usize, number: u32) -> usize
-    ensures { Appended out.old at out.new result (channel_text number) }
-{
-    // Five letters for each number from 0 on.
-    let names = *b"     TCH  SACCHSDCCHFCCH SCH  BCCH CCCH RACH ";
-    let start = 5 * named(number);
-    let end = start + channel_width(number);
-    put(out, at, &names[start..end])
-}
-
-// Idle, or a channel with its numbers, and with the second block and place where there are two.
-fn content(
-    out: &mut [u8],
-    at: usize,
-    number: u32,
-    first: &[u32],
-    blocks: u32,
-    second: &[u32],
-) -> usize
-    ensures { Appended out.old at out.new result (content_text number first.now blocks second.now) }
-{
-    if number == 0 {
-        return put(out, at, b" idle\n");
+    fn print(self, out: &mut ArrayVec<u8, N>) {
+        match self {
+            Some(found) => {
+                put_numbers(out, &[found.line]);
+                found.on_air.print(out);
+            }
+            None => put(out, b" nobody"),
+        }
     }
-    let end = put(out, at, b" ");
-    let end = channel(out, end, number);
-    let end = put_numbers(out, end, first);
-    if blocks != 2 {
-        return put(out, end, b"\n");
+}
+
+// The bits of a burst or of its payload.
+#[derive(Clone, Copy)]
+pub struct Bits<'a>(pub &'a [u8]);
+
+impl<'a, const N: usize> Reply<N> for Bits<'a> {
+    ghost text = { λ b. ascii " " ++ map bit_character b.0.now };
+
+    fn print(self, out: &mut ArrayVec<u8, N>) {
+        put(out, b" ");
+        put_bits(out, self.0);
     }
-    let end = put_numbers(out, end, second);
-    put(out, end, b"\n")
 }
 
-pub fn map(out: &mut [u8], at: usize, a: TdmaMap) -> usize
-    ensures { Appended out.old at out.new result (map_text a) }
+// "ok" and what an accepted call gives, or the refusal.
+pub fn answer<T: Reply<N>, const N: usize>(out: &mut ArrayVec<u8, N>, answer: Result<T, Refusal>)
+    ensures { out.new.items ≡ written N out.old.items (answered answer T.text) }
 {
-    if a.refusal != 0 {
-        return refused(out, at, a.refusal as u32, 0);
+    match answer {
+        Ok(value) => {
+            put(out, b"ok");
+            value.print(out);
+            put(out, b"\n");
+        }
+        Err(refusal) => refused(out, refusal),
     }
-    let end = put(out, at, b"ok");
-    let first = [a.subchannel as u32, a.block as u32, a.place as u32];
-    let second = [a.block2 as u32, a.place2 as u32];
-    content(out, end, a.channel as u32, &first, a.blocks as u32, &second)
 }
 
-// What a line has on the air: the ARFCN, and idle or the channel.
-fn slot(out: &mut [u8], at: usize, a: TdmaLine) -> usize
-    ensures { Appended out.old at out.new result (slot_text a) }
+// A refusal, and the value that comes with some.
+pub fn refused<const N: usize>(out: &mut ArrayVec<u8, N>, refusal: Refusal)
+    ensures { out.new.items ≡ written N out.old.items (refused_text refusal) }
 {
-    let end = put_numbers(out, at, &[a.arfcn]);
-    let first = [a.subchannel, a.owner, a.block, a.place];
-    let second = [a.block2, a.place2];
-    content(out, end, a.channel, &first, a.blocks, &second)
-}
-
-pub fn line(out: &mut [u8], at: usize, a: TdmaLine) -> usize
-    ensures { Appended out.old at out.new result (line_text a) }
-{
-    if a.refusal != 0 {
-        return refused(out, at, a.refusal, 0);
+    put(out, b"refused");
+    match refusal.value() {
+        Some(value) => put_numbers(out, &[refusal.number(), value]),
+        None => put_numbers(out, &[refusal.number()]),
     }
-    let end = put(out, at, b"ok");
-    slot(out, end, a)
+    put(out, b"\n");
 }
 
-pub fn who(out: &mut [u8], at: usize, a: TdmaWho) -> usize
-    ensures { Appended out.old at out.new result (who_text a) }
+// The name of a channel. A function, no `Display`: what is printed is cut where the buffer has no room, and of that no `write!` has a clause.
+pub fn channel_name(kind: Kind) -> &'static [u8]
+    ensures { result.now ≡ channel_text kind }
 {
-    if a.refusal != 0 {
-        return refused(out, at, a.refusal, 0);
+    match kind {
+        Kind::Tch => b"TCH",
+        Kind::Sacch => b"SACCH",
+        Kind::Sdcch => b"SDCCH",
+        Kind::Fcch => b"FCCH",
+        Kind::Sch => b"SCH",
+        Kind::Bcch => b"BCCH",
+        Kind::Ccch => b"CCCH",
+        Kind::Rach => b"RACH",
     }
-    if a.found == 0 {
-        return put(out, at, b"ok nobody\n");
+}
+
+fn owner<const N: usize>(out: &mut ArrayVec<u8, N>, owner: Option<u32>)
+    ensures { out.new.items ≡ written N out.old.items (owner_text owner) }
+{
+    if let Some(owner) = owner {
+        put_numbers(out, &[owner]);
     }
-    let end = put(out, at, b"ok");
-    let end = put_numbers(out, end, &[a.line]);
-    let answer = a.answer;
-    slot(out, end, answer)
 }
 
-// The bits of a burst or of its payload, or a refusal.
-pub fn bits(out: &mut [u8], at: usize, a: TdmaAnswer, bits: &[u8]) -> usize
-    ensures { Appended out.old at out.new result (bits_text a bits.now) }
+// Idle, or a channel with its subchannel, the owner where it is told, and its blocks.
+fn content<const N: usize>(out: &mut ArrayVec<u8, N>, content: Content, told: Option<u32>)
+    ensures { out.new.items ≡ written N out.old.items (content_text content told) }
 {
-    if a.refusal != 0 {
-        return refused(out, at, a.refusal, a.value);
+    match content {
+        Content::Idle => put(out, b" idle"),
+        Content::Channel(burst) => {
+            put(out, b" ");
+            put(out, channel_name(burst.kind));
+            put_numbers(out, &[burst.subchannel]);
+            owner(out, told);
+            blocks(out, burst.blocks);
+        }
     }
-    let end = put(out, at, b"ok ");
-    let end = put_bits(out, end, bits);
-    put(out, end, b"\n")
 }
 
-fn reason_width(number: u32) -> usize
-    ensures { (result ≤ 16) × (result ≡ length (reason_text number)) }
+fn place<const N: usize>(out: &mut ArrayVec<u8, N>, place: Place)
+    ensures { out.new.items ≡ written N out.old.items (place_text place) }
 {
-    let widths = [0usize, 15, 13, 13, 14, 12, 16, 15, 13];
-    widths[named(number)]
+    put_numbers(out, &[place.block, place.place]);
 }
 
-// Why a line is no command; none has another number.
-fn reason(out: &mut [u8], at: usize, number: u32) -> usize
-    ensures { Appended out.old at out.new result (reason_text number) }
+fn blocks<const N: usize>(out: &mut ArrayVec<u8, N>, blocks: Blocks)
+    ensures { out.new.items ≡ written N out.old.items (blocks_text blocks) }
 {
-    // Sixteen letters for each number from 0 on.
-    let reasons =
-        *b"                unknown command unknown burst   too few words   too many words  not a number    number too largecount too large line too long   ";
-    let start = 16 * named(number);
-    let end = start + reason_width(number);
-    put(out, at, &reasons[start..end])
+    match blocks {
+        Blocks::One(only) => place(out, only),
+        Blocks::Two(first, second) => {
+            place(out, first);
+            place(out, second);
+        }
+    }
+}
+
+// Why a line is no command.
+fn reason_name(reason: Reason) -> &'static [u8]
+    ensures { result.now ≡ reason_text reason }
+{
+    match reason {
+        Reason::UnknownCommand => b"unknown command",
+        Reason::UnknownBurst => b"unknown burst",
+        Reason::TooFewWords => b"too few words",
+        Reason::TooManyWords => b"too many words",
+        Reason::NotANumber => b"not a number",
+        Reason::NumberTooLarge => b"number too large",
+        Reason::CountTooLarge => b"count too large",
+        Reason::LineTooLong => b"line too long",
+    }
 }
 
 // The answer to a line that is no command.
-pub fn error(out: &mut [u8], at: usize, number: u64, why: u32) -> usize
-    ensures { Appended out.old at out.new result (error_text number why) }
+pub fn error<const N: usize>(out: &mut ArrayVec<u8, N>, number: u64, reason: Reason)
+    ensures { out.new.items ≡ written N out.old.items (error_text number reason) }
 {
-    let end = put(out, at, b"error ");
-    let end = put_number(out, end, number);
-    let end = put(out, end, b" ");
-    let end = reason(out, end, why);
-    put(out, end, b"\n")
+    put(out, b"error ");
+    put_number(out, number);
+    put(out, b" ");
+    put(out, reason_name(reason));
+    put(out, b"\n");
 }

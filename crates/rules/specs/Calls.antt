@@ -1,9 +1,9 @@
 -- The calls that hand back a cell: document 01, "The cell and its calls" and "Who causes a refusal". Assumes nothing.
-use Rattle.std.specs.Prelude.{ℕ, ◌+◌, ◌-◌, Bool, not, ◌&&◌, ◌||◌, cond, List, [], ◌∷◌, ltb, eqb, length, get_or, set}
+use Rattle.std.specs.Prelude.{ℕ, ◌+◌, ◌-◌, Bool, not, ◌&&◌, ◌||◌, cond, List, [], ◌∷◌, ltb, eqb, length, get_or, set, Result}
 use Rattle.std.proofs.Math.Option.{Option, none, some}
 use Rattle.answers.specs.Outcome.{Refused, Outcome, refused, accepted, Cause, cause, decide}
 use Rattle.answers.specs.Refusals.{refusal_in}
-use Rattle.answers.specs.declared.Answer.{Answer}
+use Rattle.answers.specs.declared.Refusal.{Refusal}
 use Rattle.answers.specs.Search.{any_below, least}
 use Rattle.hops.specs.Masks.{contains, ones, one_at_or_above}
 use Rattle.hops.specs.Allocation.{is_allocation}
@@ -24,7 +24,7 @@ step before (refused r) = record { refusal = some r; cell = before }
 step before (accepted after) = record { refusal = none; cell = after }
 
 -- what the code answers, and the cell that it leaves
-abbrev pub changed : Answer → Cell → Step
+abbrev pub changed : Result Unit Refusal → Cell → Step
 changed answer cell = record { refusal = refusal_in answer; cell = cell }
 
 -- ---- start

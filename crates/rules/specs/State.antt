@@ -1,5 +1,7 @@
 -- The state of a cell: document 01, "The cell and its calls". Assumes nothing.
 use Rattle.std.specs.Prelude.{ℕ, zero, suc, Bool, not, List, [], ◌∷◌, eqb, length, get_or, take}
+pub use Rattle.rules.specs.declared.Values.{Values}
+pub use Rattle.rules.specs.declared.Parameters.{Parameters}
 
 -- "A line is closed, or has TN, mask, HSN, MAIO, combination, TSC (training code) 0–7, and for each s an owner 1–65,535, or 0 for free."
 pub record LineState : Type 0 where
@@ -35,19 +37,19 @@ line_count = 64
 abbrev pub owner_room : ℕ
 owner_room = 8
 
--- a line's six values: "TN, mask, HSN, MAIO, combination, TSC (training code)"
-pub record Values : Type 0 where
-  pub tn : ℕ
-  pub mask : ℕ
-  pub hsn : ℕ
-  pub maio : ℕ
-  pub combination : ℕ
-  pub tsc : ℕ
-
--- "and for each s an owner": a line with these values, where s has the owner `owners s`
+-- a line's six values are "TN, mask, HSN, MAIO, combination, TSC (training code)", the fields of `Values`; "and for each s an owner": a line with these
+-- values, where s has the owner `owners s`
 abbrev pub line_with : Values → (ℕ → ℕ) → LineState
 line_with v owners =
     record { mask = v.mask; tn = v.tn; hsn = v.hsn; maio = v.maio; combination = v.combination; tsc = v.tsc; owners = tabulate owner_room owners }
+
+-- the six values of a line
+abbrev pub values_of : LineState → Values
+values_of l = record { tn = l.tn; mask = l.mask; hsn = l.hsn; maio = l.maio; combination = l.combination; tsc = l.tsc }
+
+-- C0, BCC, AG and P of a cell
+abbrev pub parameters_of : Cell → Parameters
+parameters_of c = record { c0 = c.c0; bcc = c.bcc; ag = c.ag; p = c.p }
 
 -- "or 0 for free"
 abbrev pub free : ℕ → ℕ

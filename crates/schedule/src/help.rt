@@ -1,24 +1,8 @@
 // What `schedule --help` prints: how the program is run, its commands with what each answers, and what a refusal and an error look like.
 // docs/SCHEDULE.md has the whole format.
-use crate::output;
-use crate::output::Output;
-use text::words::same;
+use crate::output::complain;
 
-pub(crate) fn is_asked(argument: &[u8]) -> bool {
-    if same(argument, b"--help") {
-        return true;
-    }
-    same(argument, b"-h")
-}
-
-fn show(text: &[u8], output: Output) -> Output {
-    let waiting = output::ends_at(output, text.len());
-    output::flush(text, waiting)
-}
-
-fn show_usage(output: Output) -> Output {
-    show(
-        b"schedule: the timetable of a GSM cell, asked and answered line by line
+const HELP: &[u8] = b"schedule: the timetable of a GSM cell, asked and answered line by line
 
 Usage:
   schedule                    runs the plan that is built in, with its timetable
@@ -26,14 +10,7 @@ Usage:
   schedule -                  answers the commands of standard input
   schedule --help, -h         prints this text (./--help is a file)
 
-",
-        output,
-    )
-}
-
-fn show_commands(output: Output) -> Output {
-    show(
-        b"Commands, one to a line, and the answer when accepted:
+Commands, one to a line, and the answer when accepted:
   split FN                    ok T1 T2 T3 T3'   (- where T3' isn't given)
   join T1 T2 T3               ok FN
   hop MASK HSN MAIO FN ARFCN..
@@ -63,14 +40,7 @@ fn show_commands(output: Output) -> Output {
   table TN DIRECTION FN COUNT
                               a timetable: the open lines of a timeslot
 
-",
-        output,
-    )
-}
-
-fn show_other_answers(output: Output) -> Output {
-    show(
-        b"Numbers are decimal. ARFCN.. is a list, the cell allocation; bit p of MASK
+Numbers are decimal. ARFCN.. is a list, the cell allocation; bit p of MASK
 stands for its position p. DIRECTION is 0 for downlink, 1 for uplink. BITS are
 characters 0 and 1. COUNT is how many frames, at most 2715648. A line that is
 empty or starts with # is passed over.
@@ -87,13 +57,10 @@ Other answers:
        8 common channel          16 no common line is open
          misplaced
   error LINENUMBER REASON     no command: nothing of the line is carried out
-",
-        output,
-    )
-}
+";
 
 pub(crate) fn print(rt: HostRuntime) {
-    let output = show_usage(output::nothing(rt));
-    let output = show_commands(output);
-    show_other_answers(output);
+    if let Err(error) = rt.write_all(HELP) {
+        complain(rt, "standard output", error);
+    }
 }

@@ -1,19 +1,8 @@
 // The plan that is built in: commands, each shown before its answer.
-use crate::answering::State;
-use crate::{answering, no_cell, output};
+use crate::session::Session;
 
-pub(crate) fn run(rt: HostRuntime) {
-    let mut cell = no_cell();
-    let mut list = [0u16; 64];
-    let mut out = [0u8; 65536];
-    let state = State {
-        number: 0,
-        long: false,
-        output: output::nothing(rt),
-    };
-    let lines = answering::all(
-        &mut cell,
-        b"# Six ARFCNs, C0 is 10, BCC 3; one block of access grants, five multiframes of paging.
+const PLAN: &[u8] =
+    b"# Six ARFCNs, C0 is 10, BCC 3; one block of access grants, five multiframes of paging.
 start 10 3 1 5 10 20 30 40 50 60
 # Line 0: the combined common channels.
 open 0 0 1 0 0 5 3
@@ -35,13 +24,11 @@ page 262011234567890 0
 table 0 0 0 51
 table 1 0 0 51
 table 2 0 0 52
-",
-        state,
-        true,
-        &mut list,
-        &mut out,
-    );
-    let state = lines.state;
-    let output = state.output;
-    output::flush(&out, output);
+";
+
+pub(crate) fn run(rt: HostRuntime) {
+    let mut session = Session::new(rt);
+    session.shown = true;
+    session.answer_lines(PLAN);
+    session.output.flush();
 }

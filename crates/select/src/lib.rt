@@ -21,24 +21,26 @@ fn fold(v: u64, w: u32, low: u64) -> u64
     (v & low) + ((v >> w) & low)
 }
 
-// The half of w bits, of the block at `s.at`, that holds the wanted one. v has the count of the low half at that place.
-fn half(v: u64, w: u32, s: Search) -> Search
-    requires { (w < 64) × (s.at < 64) }
-    ensures { (result ≡ cond (ltb s.left (v / 2 ^ s.at % 2 ^ w)) s (record { at = s.at + w; left = s.left - v / 2 ^ s.at % 2 ^ w })) × (result.at ≤ s.at + w) }
-{
-    let at = s.at;
-    let left = s.left;
-    let count = (v >> at) % (1u64 << w);
-    if left < count {
-        return s;
-    }
-    Search {
-        at: at + w,
-        left: left - count,
+impl Search {
+    // The half of w bits, of the block at `self.at`, that holds the wanted one. v has the count of the low half at that place.
+    fn half(self, v: u64, w: u32) -> Search
+        requires { (w < 64) × (self.at < 64) }
+        ensures half { result ≡ cond (ltb self.left (v / 2 ^ self.at % 2 ^ w)) self (record { at = self.at + w; left = self.left - v / 2 ^ self.at % 2 ^ w }) }
+        ensures within { result.at ≤ self.at + w }
+    {
+        let count = (v >> self.at) % (1u64 << w);
+        if self.left < count {
+            return self;
+        }
+        Search {
+            at: self.at + w,
+            left: self.left - count,
+        }
     }
 }
 
-// The mask's one that has mai ones below it, 63 if there is none.
+// The mask's one that has mai ones below it, 63 if there is none, which whoever hops has ruled out: an Option would be tested once more in each hop.
+// Five folds and six halves in a row, since each has a width, a mask and counts of its own: a loop would take them from three arrays.
 pub fn position_at(mask: u64, mai: u32) -> u32
     ensures { result ≡ select_of mask mai }
 {
@@ -47,15 +49,16 @@ pub fn position_at(mask: u64, mai: u32) -> u32
     let by8 = fold(by4, 4, 0x0f0f_0f0f_0f0f_0f0f);
     let by16 = fold(by8, 8, 0x00ff_00ff_00ff_00ff);
     let by32 = fold(by16, 16, 0x0000_ffff_0000_ffff);
-    let s64 = Search {
+    let whole = Search {
         at: 0,
-        left: mai as u64,
+        left: u64::from(mai),
     };
-    let s32 = half(by32, 32, s64);
-    let s16 = half(by16, 16, s32);
-    let s8 = half(by8, 8, s16);
-    let s4 = half(by4, 4, s8);
-    let s2 = half(by2, 2, s4);
-    let s1 = half(mask, 1, s2);
-    s1.at
+    whole
+        .half(by32, 32)
+        .half(by16, 16)
+        .half(by8, 8)
+        .half(by4, 4)
+        .half(by2, 2)
+        .half(mask, 1)
+        .at
 }

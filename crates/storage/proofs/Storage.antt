@@ -1,21 +1,23 @@
 -- Laws of the words that hold a cell: what is read of a line, and what a change of one line's words leaves. Assumes nothing.
 use Prim.Native.Nat.{ℕ, zero, suc, ◌+◌, ◌*◌, ◌-◌, ◌/◌, ◌%◌, ◌^◌, ◌<◌, ◌≤◌}
 use mathlib.Core.Path.{◌≡◌, refl, sym, ap, subst, ◌∙◌}
-use mathlib.Core.Bool.{Bool, true, false, cond}
+use mathlib.Core.Bool.{Bool, cond}
 use mathlib.Core.List.{List, [], ◌∷◌}
 use mathlib.Core.Logic.{◌⊎◌, inl, inr, ⊎_elim}
-use native.Mathlib.Nat.{zero-add}
 use native.Mathlib.Decide.{dec_lt}
-use lib.Dec.{ltb, lit≤}
 use native.Mathlib.Omega.{arith}
-use lib.ListN.{length, get_or, set, length-set, get_or-eq_default}
+use lib.Dec.{ltb}
+use lib.ListN.{length, get_or, set, length-set, get_or-eq_default, replicate}
 use lib.Seq.{ext_get_or, set_out, set-get_or, get_or-set_same, get_or-set_other}
-use borrow.Author.Count.{below_none, below_more}
 use borrow.Author.Tests.{lt-ltb, le-ltb}
-use Rattle.rules.specs.State.{LineState, Cell, Values, tabulate, line_with, free, closed_line, line_at, owner_at, empty}
+use borrow.Rule.Slice.PartMut.{put_mid}
+use Rattle.std.proofs.lemmas.List.{places, get_or-replicate, length-replicate}
+use Rattle.rules.specs.State.{LineState, Cell, values_of, tabulate, line_with, free, closed_line, line_at, owner_at, empty}
+use Rattle.rules.specs.declared.Parameters.{Parameters}
+use Rattle.rules.specs.declared.Values.{Values}
 use Rattle.rules.specs.Calls.{with_line, with_owner}
 use Rattle.storage.specs.Words.{word, place_of, line_in, cell_of, Stored, SameWords}
-use Rattle.storage.specs.Helpers.{line_word, Fills, started_from}
+use Rattle.storage.specs.Helpers.{started_from}
 use Rattle.rules.proofs.Tabulate.{tabulate_at, tabulate_same, tabulate_set, tabulate_length}
 
 -- ---- what is read
@@ -37,50 +39,52 @@ module _ (words : List ℕ) (n : ℕ) where
   abbrev no_line : LineState
   no_line = record { mask = 0; tn = 0; hsn = 0; maio = 0; combination = 0; tsc = 0; owners = [] }
 
-  line_past : 63 < n → line_at (cell_of words) n ≡ no_line
+  pub line_past : 63 < n → line_at (cell_of words) n ≡ no_line
   unfolding cell_of
   line_past h = get_or-eq_default (tabulate 64 (line_in words)) no_line (subst (λ (k : ℕ). k ≤ n) (sym (tabulate_length 64 (line_in words))) h)
 
-  -- the readers of a line's words, on both sides of the last line
-  pub word_past : (k : ℕ) → 63 < n → 0 ≡ line_word words n k
-  word_past k h = sym (ap (λ (t : Bool). cond t 0 (word words (place_of n + k))) (lt-ltb 63 n h))
-
-  pub word_in : (k : ℕ) → n ≤ 63 → word words (place_of n + k) ≡ line_word words n k
-  word_in k h = sym (ap (λ (t : Bool). cond t 0 (word words (place_of n + k))) (le-ltb 63 n h))
-
-  -- a number of a line: of the line's words, or 0 past the last line
-  pub line_number : (f : LineState → ℕ) (g : ℕ) → f no_line ≡ 0 → f (line_in words n) ≡ g → f (line_at (cell_of words) n) ≡ cond (ltb 63 n) 0 g
-  line_number f g z e = go (dec_lt 63 n)
-    where
-      go : Dec (63 < n) → f (line_at (cell_of words) n) ≡ cond (ltb 63 n) 0 g
-      go (yes h) = ap f (line_past h) ∙ z ∙ sym (ap (λ (t : Bool). cond t 0 g) (lt-ltb 63 n h))
-      go (no h) = let b : n < 64 = omega arith in ap f (line_stored words n b) ∙ e ∙ sym (ap (λ (t : Bool). cond t 0 g) (le-ltb 63 n (omega arith)))
-
-  -- a mask by its halves
-  pub line_mask : (line_at (cell_of words) n).mask ≡ line_word words n 0 + 2 ^ 32 * line_word words n 1
+  pub values_in : n < 64 → {mask : ℕ} → mask ≡ word words (place_of n) + 2 ^ 32 * word words (place_of n + 1)
+      → ◌≡◌ {A = Values}
+      (record { tn = word words (place_of n + 2); mask = mask; hsn = word words (place_of n + 3); maio = word words (place_of n + 4); combination = word words (place_of n + 5); tsc = word words (place_of n + 6) })
+      (values_of (line_at (cell_of words) n))
   unfolding line_in
-  line_mask = line_number (λ l. l.mask) (word words (place_of n + 0) + 2 ^ 32 * word words (place_of n + 1)) refl refl ∙ go (ltb 63 n)
-    where
-      go : (t : Bool) → cond t 0 (word words (place_of n + 0) + 2 ^ 32 * word words (place_of n + 1)) ≡ cond t 0 (word words (place_of n + 0)) + 2 ^ 32 * cond t 0 (word words (place_of n + 1))
-      go true = refl
-      go false = refl
+  values_in h {mask} e =
+      ap {B = Values} (λ (m : ℕ). record { tn = word words (place_of n + 2); mask = m; hsn = word words (place_of n + 3); maio = word words (place_of n + 4); combination = word words (place_of n + 5); tsc = word words (place_of n + 6) })
+      (e ∙ ap (λ (k : ℕ). word words k + 2 ^ 32 * word words (place_of n + 1)) (let z : place_of n ≡ place_of n + 0 = omega arith in z))
+      ∙ ap values_of (sym (line_stored words n h))
 
   abbrev owners : ℕ → ℕ
   owners k = word words (place_of n + (7 + k))
 
-  pub owner_in : (s : ℕ) → s < 8 → owner_at (line_at (cell_of words) n) s ≡ line_word words n (7 + s)
+  pub owner_stored : (s : ℕ) → n < 64 → s < 8 → owner_at (line_at (cell_of words) n) s ≡ word words (place_of n + (7 + s))
   unfolding line_in
-  owner_in s b = line_number (λ l. owner_at l s) (owners s) refl (tabulate_at 8 owners 0 s b)
+  owner_stored s h b = ap (λ (l : LineState). owner_at l s) (line_stored words n h) ∙ tabulate_at 8 owners 0 s b
+
+  -- past the last line, or past the last subchannel of one
+  abbrev Nowhere : ℕ → Type 0
+  Nowhere s = (63 < n) ⊎ ((n ≤ 63) × (7 < s))
+
+  pub no_owner : (s : ℕ) → Nowhere s → owner_at (line_at (cell_of words) n) s ≡ 0
+  unfolding line_in
+  no_owner s (inl h) = ap (λ (l : LineState). owner_at l s) (line_past h)
+  no_owner s (inr h) =
+      ap (λ (l : LineState). owner_at l s) (line_stored words n (omega arith))
+      ∙ get_or-eq_default (tabulate 8 owners) 0 (subst (λ (k : ℕ). k ≤ s) (sym (tabulate_length 8 owners)) h.1)
+
+  -- of any line, and past the last one
+  pub owner_in : (s : ℕ) → s < 8 → owner_at (line_at (cell_of words) n) s ≡ cond (ltb 63 n) 0 (word words (place_of n + (7 + s)))
+  owner_in s b = go (dec_lt 63 n)
+    where
+      go : Dec (63 < n) → owner_at (line_at (cell_of words) n) s ≡ cond (ltb 63 n) 0 (word words (place_of n + (7 + s)))
+      go (yes h) = no_owner s (inl h) ∙ sym (ap (λ (t : Bool). cond t 0 (word words (place_of n + (7 + s)))) (lt-ltb 63 n h))
+      go (no h) = owner_stored s (omega arith) b ∙ sym (ap (λ (t : Bool). cond t 0 (word words (place_of n + (7 + s)))) (le-ltb 63 n (omega arith)))
 
   pub owner_past : (s : ℕ) → 8 ≤ s → owner_at (line_at (cell_of words) n) s ≡ 0
-  unfolding line_in
-  owner_past s b =
-      line_number (λ l. owner_at l s) 0 refl (get_or-eq_default (tabulate 8 owners) 0 (subst (λ (k : ℕ). k ≤ s) (sym (tabulate_length 8 owners)) b))
-      ∙ go (ltb 63 n)
+  owner_past s b = go (dec_lt 63 n)
     where
-      go : (t : Bool) → cond {A = ℕ} t 0 0 ≡ 0
-      go true = refl
-      go false = refl
+      go : Dec (63 < n) → owner_at (line_at (cell_of words) n) s ≡ 0
+      go (yes h) = no_owner s (inl h)
+      go (no h) = no_owner s (inr (omega arith, omega arith))
 
   -- with another line past the last one, or another owner past the last subchannel, the cell is the same
   abbrev with_lines : List LineState → Cell
@@ -91,24 +95,21 @@ module _ (words : List ℕ) (n : ℕ) where
   unfolding cell_of
   no_such_line l h = ap with_lines (sym (set_out (tabulate 64 (line_in words)) n l (subst (λ (k : ℕ). k ≤ n) (sym (tabulate_length 64 (line_in words))) h)))
 
-  pub no_such_owner : (s o : ℕ) → 7 < s → cell_of words ≡ with_line (cell_of words) n (with_owner (line_at (cell_of words) n) s o)
+  pub no_such_owner : (s o : ℕ) → Nowhere s → cell_of words ≡ with_line (cell_of words) n (with_owner (line_at (cell_of words) n) s o)
   unfolding line_in
-  no_such_owner s o h = ap with_lines (sym (ap (set (cell_of words).lines n) same ∙ set-get_or (cell_of words).lines n no_line))
+  no_such_owner s o (inl h) = no_such_line _ h
+  no_such_owner s o (inr h) = ap with_lines (sym (ap (set (cell_of words).lines n) same ∙ set-get_or (cell_of words).lines n no_line))
     where
       l : LineState
       l = line_at (cell_of words) n
 
-      at_most_8 : (t : Bool) → cond {A = ℕ} t 0 8 ≤ 8
-      at_most_8 true = lit≤ {m = 0} {n = 8} tt
-      at_most_8 false = lit≤ {m = 8} {n = 8} tt
-
-      count : length l.owners ≡ cond (ltb 63 n) 0 8
-      count = line_number (λ l. length l.owners) 8 refl (tabulate_length 8 owners)
+      count : length l.owners ≡ 8
+      count = ap (λ (l : LineState). length l.owners) (line_stored words n (omega arith)) ∙ tabulate_length 8 owners
 
       same : with_owner l s o ≡ l
       same =
           ap {B = LineState} (λ (os : List ℕ). record { mask = l.mask; tn = l.tn; hsn = l.hsn; maio = l.maio; combination = l.combination; tsc = l.tsc; owners = os })
-          (set_out l.owners s o (let m = at_most_8 (ltb 63 n) in omega (arith, count, m)))
+          (set_out l.owners s o (omega (arith, count, h.1)))
 
 -- ---- equal words
 
@@ -194,76 +195,79 @@ module _ (words : List ℕ) (n s o : ℕ) (h : n < 64) (b : s < 8) (long : lengt
       inside k (inl l) z = omega arith
       inside k (inr l) z = omega arith
 
--- ---- what a loop fills
+-- ---- a line's words written
 
-module _ (from : ℕ) (f : ℕ → ℕ) (before : List ℕ) where
-  pub fills_none : Fills from 0 f before before
-  fills_none = (below_none _, λ k h. refl)
+-- a part of k words, from a on, is written with ys
+module _ (xs ys : List ℕ) (a k : ℕ) (room : a + k ≤ length xs) (count : length ys ≡ k) where
+  part_new : (j : ℕ) → j < k → word (put_mid a k xs ys) (a + j) ≡ word ys j
+  part_new j h = grind (arith, places)
 
-  pub fills_next : (k i v : ℕ) (w : List ℕ) → i ≡ from + k → i < length w → v ≡ f k → Fills from k f before w → Fills from (k + 1) f before (set w i v)
-  fills_next k i v w e b q h = (
-    below_more _ k (λ j l. get_or-set_other w i (from + j) v 0 (λ z. omega arith) ∙ h.0 j l) (ap (word (set w i v)) (sym e) ∙ get_or-set_same w i v 0 b ∙ q),
-    λ j o. get_or-set_other w i j v 0 (λ z. other j o z) ∙ h.1 j (wider j o),
-  )
-    where
-      other : (j : ℕ) → (j < from) ⊎ (from + (k + 1) ≤ j) → j ≡ i → ⊥
-      other j (inl l) z = omega arith
-      other j (inr l) z = omega arith
+  part_old : (j : ℕ) → (j < a) ⊎ (a + k ≤ j) → word (put_mid a k xs ys) j ≡ word xs j
+  part_old j o = grind (arith, places)
 
-      wider : (j : ℕ) → (j < from) ⊎ (from + (k + 1) ≤ j) → (j < from) ⊎ (from + k ≤ j)
-      wider j (inl l) = inl l
-      wider j (inr l) = inr (omega arith)
-
-  pub fills_all : (k count : ℕ) (w : List ℕ) → k ≤ count → count ≤ k → Fills from k f before w → Fills from count f before w
-  fills_all k count w a b h = subst (λ (j : ℕ). Fills from j f before w) (let e : k ≡ count = omega arith in e) h
-
--- ---- a line's words filled
-
-module _ (v w : List ℕ) (n tn mask hsn maio combination tsc low high : ℕ) where
+module _ (v : List ℕ) (n : ℕ) (values : Values) where
   -- the words of a line with these values and no owners
   abbrev words : List ℕ
-  words = low ∷ high ∷ tn ∷ hsn ∷ maio ∷ combination ∷ tsc ∷ 0 ∷ 0 ∷ 0 ∷ 0 ∷ 0 ∷ 0 ∷ 0 ∷ 0 ∷ []
+  words = values.mask % 2 ^ 32 ∷ values.mask / 2 ^ 32 ∷ values.tn ∷ values.hsn ∷ values.maio ∷ values.combination ∷ values.tsc ∷ 0 ∷ 0 ∷ 0 ∷ 0 ∷ 0 ∷ 0 ∷ 0 ∷ 0 ∷ []
 
-  abbrev values : Values
-  values = record { tn = tn; mask = mask; hsn = hsn; maio = maio; combination = combination; tsc = tsc }
-
-  new_line : low ≡ mask % 2 ^ 32 → high ≡ mask / 2 ^ 32 → ((k : ℕ) → k < 15 → word w (place_of n + k) ≡ word words k) → line_in w n ≡ line_with values free
+  new_line : (w : List ℕ) → ((k : ℕ) → k < 15 → word w (place_of n + k) ≡ word words k) → line_in w n ≡ line_with values free
   unfolding tabulate
-  new_line l h e =
+  new_line w e =
       line_by w n (word words) e
-      ∙ ap {B = LineState} (λ (m : ℕ). record { mask = m; tn = tn; hsn = hsn; maio = maio; combination = combination; tsc = tsc; owners = tabulate 8 free }) (let m : low + 2 ^ 32 * high ≡ mask = omega (arith, l, h) in m)
+      ∙ ap {B = LineState} (λ (m : ℕ). record { mask = m; tn = values.tn; hsn = values.hsn; maio = values.maio; combination = values.combination; tsc = values.tsc; owners = tabulate 8 free })
+      (let m : values.mask % 2 ^ 32 + 2 ^ 32 * (values.mask / 2 ^ 32) ≡ values.mask = omega arith in m)
 
-  pub filled_line : n < 64 → low ≡ mask % 2 ^ 32 → high ≡ mask / 2 ^ 32 → Fills (place_of n) 15 (word words) v w → cell_of w ≡ with_line (cell_of v) n (line_with values free)
-  filled_line b l h f = other_line v w n b f.1 ∙ ap (with_line (cell_of v) n) (new_line l h f.0)
+  -- where w has them in n's fifteen places, and elsewhere what v has
+  pub filled_line : (w : List ℕ) → n < 64 → ((k : ℕ) → k < 15 → word w (place_of n + k) ≡ word words k) → ((k : ℕ) → Outside n k → word w k ≡ word v k)
+      → cell_of w ≡ with_line (cell_of v) n (line_with values free)
+  filled_line w b new old = other_line v w n b old ∙ ap (with_line (cell_of v) n) (new_line w new)
+
+  -- as they are when these places are written at once
+  pub line_put : (k : ℕ) (ys : List ℕ) → n < 64 → length v ≡ 1029 → k ≡ 15 → ys ≡ words → cell_of (put_mid (place_of n) k v ys) ≡ with_line (cell_of v) n (line_with values free)
+  line_put k ys b long e q = subst (λ (j : ℕ). cell_of (put_mid (place_of n) j v ys) ≡ with_line (cell_of v) n (line_with values free)) (sym e) (subst (λ (zs : List ℕ). cell_of (put_mid (place_of n) 15 v zs) ≡ with_line (cell_of v) n (line_with values free)) (sym q) put)
+    where
+      room : place_of n + 15 ≤ length v
+      room = omega arith
+
+      put : cell_of (put_mid (place_of n) 15 v words) ≡ with_line (cell_of v) n (line_with values free)
+      put = filled_line (put_mid (place_of n) 15 v words) b (part_new v words (place_of n) 15 room refl) (part_old v words (place_of n) 15 room refl)
 
 -- ---- the words of a cell with all lines closed
+
+-- 0 is read everywhere
+pub zeros_at : (w : List ℕ) (n : ℕ) → w ≡ replicate n 0 → (k : ℕ) → word w k ≡ 0
+zeros_at w n e k = ap (λ (x : List ℕ). word x k) e ∙ go (dec_lt k n)
+  where
+    go : Dec (k < n) → word (replicate n 0) k ≡ 0
+    go (yes h) = get_or-replicate n k 0 0 h
+    go (no h) = get_or-eq_default (replicate n 0) 0 (omega (arith, length-replicate {A = ℕ} n 0))
 
 -- a line of zeros is closed
 zero_line : (w : List ℕ) (n : ℕ) → ((k : ℕ) → k < 15 → word w (place_of n + k) ≡ 0) → line_in w n ≡ closed_line
 unfolding closed_line
 zero_line w n e = line_by w n (λ (k : ℕ). 0) e
 
--- v is as it came, then CA was put, then the lines were closed, and then the five numbers put
-module _ (v w u ca : List ℕ) (c0 bcc ag p : ℕ) (f : Fills 0 64 (word ca) v w) (g : Fills 69 960 (λ k. 0) w u) (long : length u ≡ 1029) where
+-- u has the words of CA, and zeros in the places of the lines; then the five numbers are put
+module _ (u ca : List ℕ) (p : Parameters) (f : (k : ℕ) → k < 64 → word u k ≡ word ca k) (g : (k : ℕ) → k < 960 → word u (69 + k) ≡ 0) (long : length u ≡ 1029) where
   abbrev with_length : List ℕ
   with_length = set u 64 (length ca)
 
   abbrev with_c0 : List ℕ
-  with_c0 = set with_length 65 c0
+  with_c0 = set with_length 65 p.c0
 
   abbrev with_bcc : List ℕ
-  with_bcc = set with_c0 66 bcc
+  with_bcc = set with_c0 66 p.bcc
 
   abbrev with_ag : List ℕ
-  with_ag = set with_bcc 67 ag
+  with_ag = set with_bcc 67 p.ag
 
   abbrev started : List ℕ
-  started = set with_ag 68 p
+  started = set with_ag 68 p.p
 
   untouched : (k : ℕ) → (k < 64) ⊎ (69 ≤ k) → word started k ≡ word u k
   untouched k o =
-      get_or-set_other with_ag 68 k p 0 (not_at 68 (omega arith) (omega arith)) ∙ get_or-set_other with_bcc 67 k ag 0 (not_at 67 (omega arith) (omega arith))
-      ∙ get_or-set_other with_c0 66 k bcc 0 (not_at 66 (omega arith) (omega arith)) ∙ get_or-set_other with_length 65 k c0 0 (not_at 65 (omega arith) (omega arith))
+      get_or-set_other with_ag 68 k p.p 0 (not_at 68 (omega arith) (omega arith)) ∙ get_or-set_other with_bcc 67 k p.ag 0 (not_at 67 (omega arith) (omega arith))
+      ∙ get_or-set_other with_c0 66 k p.bcc 0 (not_at 66 (omega arith) (omega arith)) ∙ get_or-set_other with_length 65 k p.c0 0 (not_at 65 (omega arith) (omega arith))
       ∙ get_or-set_other u 64 k (length ca) 0 (not_at 64 (omega arith) (omega arith))
     where
       not_at : (j : ℕ) → 64 ≤ j → j < 69 → k ≡ j → ⊥
@@ -273,46 +277,43 @@ module _ (v w u ca : List ℕ) (c0 bcc ag p : ℕ) (f : Fills 0 64 (word ca) v w
   long1 = length-set u 64 (length ca) ∙ long
 
   long2 : length with_c0 ≡ 1029
-  long2 = length-set with_length 65 c0 ∙ long1
+  long2 = length-set with_length 65 p.c0 ∙ long1
 
   long3 : length with_bcc ≡ 1029
-  long3 = length-set with_c0 66 bcc ∙ long2
+  long3 = length-set with_c0 66 p.bcc ∙ long2
 
   long4 : length with_ag ≡ 1029
-  long4 = length-set with_bcc 67 ag ∙ long3
+  long4 = length-set with_bcc 67 p.ag ∙ long3
 
   entries : (k : ℕ) → k < 64 → word started k ≡ word ca k
-  entries k h = untouched k (inl h) ∙ g.1 k (inl (omega arith)) ∙ ap (word w) (sym (zero-add k)) ∙ f.0 k h
+  entries k h = untouched k (inl h) ∙ f k h
 
   zeros : (k : ℕ) → k < 960 → word started (69 + k) ≡ 0
-  zeros k h = untouched (69 + k) (inr (omega arith)) ∙ g.0 k h
+  zeros k h = untouched (69 + k) (inr (omega arith)) ∙ g k h
 
   line_closed : (n : ℕ) → n < 64 → line_in started n ≡ closed_line
   line_closed n h = zero_line started n (λ k b. ap (word started) (let e : place_of n + k ≡ 69 + (15 * n + k) = omega arith in e) ∙ zeros (15 * n + k) (omega arith))
 
-  pub filled_start : cell_of started ≡ empty ca c0 bcc ag p
+  pub filled_start : cell_of started ≡ empty ca p.c0 p.bcc p.ag p.p
   unfolding cell_of empty
   filled_start =
       let a = tabulate_same 64 (word started) (λ (k : ℕ). get_or ca k 0) entries in
       let l = tabulate_same 64 (line_in started) (λ (n : ℕ). closed_line) line_closed in
-      let n4 = get_or-set_same with_ag 68 p 0 (omega (arith, long4)) in
-      let n3 = get_or-set_other with_ag 68 67 p 0 (λ z. omega arith) ∙ get_or-set_same with_bcc 67 ag 0 (omega (arith, long3)) in
-      let n2 = get_or-set_other with_ag 68 66 p 0 (λ z. omega arith) ∙ get_or-set_other with_bcc 67 66 ag 0 (λ z. omega arith) ∙ get_or-set_same with_c0 66 bcc 0 (omega (arith, long2)) in
+      let n4 = get_or-set_same with_ag 68 p.p 0 (omega (arith, long4)) in
+      let n3 = get_or-set_other with_ag 68 67 p.p 0 (λ z. omega arith) ∙ get_or-set_same with_bcc 67 p.ag 0 (omega (arith, long3)) in
+      let n2 = get_or-set_other with_ag 68 66 p.p 0 (λ z. omega arith) ∙ get_or-set_other with_bcc 67 66 p.ag 0 (λ z. omega arith) ∙ get_or-set_same with_c0 66 p.bcc 0 (omega (arith, long2)) in
       let n1 =
-      get_or-set_other with_ag 68 65 p 0 (λ z. omega arith) ∙ get_or-set_other with_bcc 67 65 ag 0 (λ z. omega arith) ∙ get_or-set_other with_c0 66 65 bcc 0 (λ z. omega arith)
-      ∙ get_or-set_same with_length 65 c0 0 (omega (arith, long1)) in
+      get_or-set_other with_ag 68 65 p.p 0 (λ z. omega arith) ∙ get_or-set_other with_bcc 67 65 p.ag 0 (λ z. omega arith) ∙ get_or-set_other with_c0 66 65 p.bcc 0 (λ z. omega arith)
+      ∙ get_or-set_same with_length 65 p.c0 0 (omega (arith, long1)) in
       let n0 =
-      get_or-set_other with_ag 68 64 p 0 (λ z. omega arith) ∙ get_or-set_other with_bcc 67 64 ag 0 (λ z. omega arith) ∙ get_or-set_other with_c0 66 64 bcc 0 (λ z. omega arith)
-      ∙ get_or-set_other with_length 65 64 c0 0 (λ z. omega arith) ∙ get_or-set_same u 64 (length ca) 0 (omega (arith, long)) in
+      get_or-set_other with_ag 68 64 p.p 0 (λ z. omega arith) ∙ get_or-set_other with_bcc 67 64 p.ag 0 (λ z. omega arith) ∙ get_or-set_other with_c0 66 64 p.bcc 0 (λ z. omega arith)
+      ∙ get_or-set_other with_length 65 64 p.c0 0 (λ z. omega arith) ∙ get_or-set_same u 64 (length ca) 0 (omega (arith, long)) in
       cc
 
--- a list of more than 64 entries is not put
-module _ (before : Cell) (ca : List ℕ) (c0 bcc ag p : ℕ) where
-  pub start_long : 64 < length ca → before ≡ started_from before ca c0 bcc ag p
-  start_long h = sym (ap (λ (t : Bool). cond t before (empty ca c0 bcc ag p)) (lt-ltb 64 (length ca) h))
-
-  pub start_put : length ca ≤ 64 → empty ca c0 bcc ag p ≡ started_from before ca c0 bcc ag p
-  start_put h = sym (ap (λ (t : Bool). cond t before (empty ca c0 bcc ag p)) (le-ltb 64 (length ca) h))
+-- a list of at most 64 entries is put
+module _ (before : Cell) (ca : List ℕ) (p : Parameters) where
+  pub start_put : length ca ≤ 64 → empty ca p.c0 p.bcc p.ag p.p ≡ started_from before ca p
+  start_put h = sym (ap (λ (t : Bool). cond t before (empty ca p.c0 p.bcc p.ag p.p)) (le-ltb 64 (length ca) h))
 
 -- ---- storage that holds one cell is the same in every word
 

@@ -2,16 +2,47 @@
 // and P, then fifteen words for each line.
 #![tactic(auto)]
 
-ghost use Rattle.std.specs.Prelude.{◌≡◌, length, get_or, ◌+◌, ◌*◌, ◌/◌, ◌%◌, ◌^◌, ◌<◌, ◌≤◌};
-ghost use Rattle.rules.specs.State.{line_with, free, line_at, owner_at, empty};
+ghost use Rattle.std.specs.Prelude.{◌≡◌, get_or};
+ghost use Rattle.rules.specs.State.{line_with, free, line_at, owner_at, values_of, parameters_of};
 ghost use Rattle.rules.specs.Calls.{with_line, with_owner};
-ghost use Rattle.storage.specs.Words.{word, place_of, cell_of};
-ghost use Rattle.storage.specs.Helpers.{line_word, Fills, started_from};
+ghost use Rattle.storage.specs.Words.{cell_of};
+ghost use Rattle.storage.specs.Helpers.{started_from};
 
-// How many words a cell takes. What writes takes them as a slice, whose length its contract can ask for.
+use rules::{Parameters, Values};
+
+// How many words a cell takes. C lends them, and a refused call leaves each as it was: so contracts speak of the words, and no `impl Model` hides them.
 pub const WORDS: usize = 1029;
 
-// The CA entry at a position, 0 past the end.
+// Where the words lie. A line's are its mask in two, the lower half first, TN, HSN, MAIO, combination, TSC, and the owners.
+const LENGTH_PLACE: usize = 64;
+
+const C0_PLACE: usize = 65;
+
+const BCC_PLACE: usize = 66;
+
+const AG_PLACE: usize = 67;
+
+const P_PLACE: usize = 68;
+
+const LINES_PLACE: usize = 69;
+
+const LINE_WORDS: usize = 15;
+
+const OWNERS_PLACE: usize = 7;
+
+// The six values of a closed line. Its combination is 0, as the words that C lends have it: a closed line then has no combination that is looked
+// for, and an `Option` would be opened in each test.
+pub const CLOSED: Values = Values {
+    tn: 0,
+    mask: 0,
+    hsn: 0,
+    maio: 0,
+    combination: 0,
+    tsc: 0,
+};
+
+// The CA entry at a position, 0 past the end, as the definition has it: who asks has ruled that out, and an `Option` would be unwrapped at once.
+#[tactic(auto, using(crate::proofs::Storage::entry_in, crate::proofs::Storage::entry_past))]
 pub fn entry(cell: &[u32; WORDS], position: u32) -> u32
     ensures { result ≡ get_or (cell_of cell.now).ca position 0 }
 {
@@ -21,238 +52,106 @@ pub fn entry(cell: &[u32; WORDS], position: u32) -> u32
     cell[position as usize]
 }
 
+#[tactic(auto, unfolding(crate::specs::Words::cell_of))]
 pub fn length(cell: &[u32; WORDS]) -> u32
     ensures { result ≡ (cell_of cell.now).length }
 {
-    cell[64]
+    cell[LENGTH_PLACE]
 }
 
-pub fn c0(cell: &[u32; WORDS]) -> u32
-    ensures { result ≡ (cell_of cell.now).c0 }
+#[tactic(auto, unfolding(crate::specs::Words::cell_of))]
+pub fn parameters(cell: &[u32; WORDS]) -> Parameters
+    ensures { result ≡ parameters_of (cell_of cell.now) }
 {
-    cell[65]
+    Parameters {
+        c0: cell[C0_PLACE],
+        bcc: cell[BCC_PLACE],
+        ag: cell[AG_PLACE],
+        p: cell[P_PLACE],
+    }
 }
 
-pub fn bcc(cell: &[u32; WORDS]) -> u32
-    ensures { result ≡ (cell_of cell.now).bcc }
-{
-    cell[66]
-}
-
-pub fn ag(cell: &[u32; WORDS]) -> u32
-    ensures { result ≡ (cell_of cell.now).ag }
-{
-    cell[67]
-}
-
-pub fn p(cell: &[u32; WORDS]) -> u32
-    ensures { result ≡ (cell_of cell.now).p }
-{
-    cell[68]
-}
-
-// Word k of line n, 0 past the last line.
-fn value(cell: &[u32; WORDS], n: usize, k: usize) -> u32
-    requires { k < 15 }
-    ensures { result ≡ line_word cell.now n k }
+// The six values of line n, 0 past the last line.
+pub fn values_at(cell: &[u32; WORDS], n: usize) -> Values
+    ensures { result ≡ values_of (line_at (cell_of cell.now) n) }
 {
     if n > 63 {
-        return 0;
+        return CLOSED;
     }
-    cell[69 + 15 * n + k]
-}
-
-fn joined(low: u32, high: u32) -> u64
-    ensures { result ≡ low + 2 ^ 32 * high }
-{
-    low as u64 + ((high as u64) << 32)
-}
-
-// The readers of a line give 0 past the last line.
-pub fn mask_at(cell: &[u32; WORDS], n: usize) -> u64
-    ensures { result ≡ (line_at (cell_of cell.now) n).mask }
-{
-    joined(value(cell, n, 0), value(cell, n, 1))
-}
-
-pub fn tn_at(cell: &[u32; WORDS], n: usize) -> u32
-    ensures { result ≡ (line_at (cell_of cell.now) n).tn }
-{
-    value(cell, n, 2)
-}
-
-pub fn hsn_at(cell: &[u32; WORDS], n: usize) -> u32
-    ensures { result ≡ (line_at (cell_of cell.now) n).hsn }
-{
-    value(cell, n, 3)
-}
-
-pub fn maio_at(cell: &[u32; WORDS], n: usize) -> u32
-    ensures { result ≡ (line_at (cell_of cell.now) n).maio }
-{
-    value(cell, n, 4)
-}
-
-pub fn combination_at(cell: &[u32; WORDS], n: usize) -> u32
-    ensures { result ≡ (line_at (cell_of cell.now) n).combination }
-{
-    value(cell, n, 5)
+    let line = LINES_PLACE + LINE_WORDS * n;
+    Values {
+        mask: u64::from(cell[line]) + (u64::from(cell[line + 1]) << 32),
+        tn: cell[line + 2],
+        hsn: cell[line + 3],
+        maio: cell[line + 4],
+        combination: cell[line + 5],
+        tsc: cell[line + 6],
+    }
 }
 
 // The owner of a subchannel of line n, 0 for free, and past the last one.
+#[tactic(auto, using(crate::proofs::Storage::owner_stored, crate::proofs::Storage::no_owner))]
 pub fn owner_at(cell: &[u32; WORDS], n: usize, s: u32) -> u32
     ensures { result ≡ owner_at (line_at (cell_of cell.now) n) s }
 {
-    if s > 7 {
+    if n > 63 || s > 7 {
         return 0;
     }
-    value(cell, n, 7 + s as usize)
-}
-
-fn write_owner(cell: &mut [u32], n: usize, s: u32, owner: u32)
-    requires { (length cell.old ≡ 1029) × (n < 64) × (s < 8) }
-    ensures { cell_of cell.new ≡ with_line (cell_of cell.old) n (with_owner (line_at (cell_of cell.old) n) s owner) }
-{
-    cell[69 + 15 * n + (7 + s as usize)] = owner;
+    cell[LINES_PLACE + LINE_WORDS * n + (OWNERS_PLACE + s as usize)]
 }
 
 // Subchannel s of line n gets an owner; nothing is written past the last line or subchannel.
 pub fn put_owner(cell: &mut [u32; WORDS], n: usize, s: u32, owner: u32)
     ensures { cell_of cell.new ≡ with_line (cell_of cell.old) n (with_owner (line_at (cell_of cell.old) n) s owner) }
 {
-    if n > 63 {
+    if n > 63 || s > 7 {
         return;
     }
-    if s > 7 {
-        return;
-    }
-    write_owner(cell, n, s, owner);
-}
-
-fn low_half(mask: u64) -> u32
-    ensures { result ≡ mask % 2 ^ 32 }
-{
-    (mask % 0x1_0000_0000) as u32
-}
-
-fn high_half(mask: u64) -> u32
-    ensures { result ≡ mask / 2 ^ 32 }
-{
-    (mask >> 32) as u32
-}
-
-// The words of line n become these.
-fn put_words(cell: &mut [u32], n: usize, words: [u32; 15])
-    requires { (length cell.old ≡ 1029) × (n < 64) }
-    ensures { Fills (place_of n) 15 (word words) cell.old cell.new }
-{
-    let mut k = 0;
-    while k < 15 {
-        cell[69 + 15 * n + k] = words[k];
-        k += 1;
-    }
-}
-
-fn write_line(
-    cell: &mut [u32],
-    n: usize,
-    tn: u32,
-    mask: u64,
-    hsn: u32,
-    maio: u32,
-    combination: u32,
-    tsc: u32,
-)
-    requires { (length cell.old ≡ 1029) × (n < 64) }
-    ensures { cell_of cell.new ≡ with_line (cell_of cell.old) n (line_with (record { tn = tn; mask = mask; hsn = hsn; maio = maio; combination = combination; tsc = tsc }) free) }
-{
-    let low = low_half(mask);
-    let high = high_half(mask);
-    put_words(
-        cell,
-        n,
-        [
-            low,
-            high,
-            tn,
-            hsn,
-            maio,
-            combination,
-            tsc,
-            0,
-            0,
-            0,
-            0,
-            0,
-            0,
-            0,
-            0,
-        ],
-    );
+    cell[LINES_PLACE + LINE_WORDS * n + (OWNERS_PLACE + s as usize)] = owner;
 }
 
 // Line n gets the six values, and no owners; nothing is written past the last line.
-pub fn put_line(
-    cell: &mut [u32; WORDS],
-    n: usize,
-    tn: u32,
-    mask: u64,
-    hsn: u32,
-    maio: u32,
-    combination: u32,
-    tsc: u32,
-)
-    ensures { cell_of cell.new ≡ with_line (cell_of cell.old) n (line_with (record { tn = tn; mask = mask; hsn = hsn; maio = maio; combination = combination; tsc = tsc }) free) }
+pub fn put_line(cell: &mut [u32; WORDS], n: usize, values: Values)
+    ensures { cell_of cell.new ≡ with_line (cell_of cell.old) n (line_with values free) }
 {
     if n > 63 {
         return;
     }
-    write_line(cell, n, tn, mask, hsn, maio, combination, tsc);
-}
-
-// The first 64 words become the list, with 0 past its end.
-fn put_allocation(cell: &mut [u32], ca: &[u16])
-    requires { length cell.old ≡ 1029 }
-    ensures { Fills 0 64 (word ca.now) cell.old cell.new }
-{
-    let mut k = 0;
-    while k < 64 {
-        cell[k as usize] = cell_allocation::entry(ca, k);
-        k += 1;
-    }
-}
-
-// All lines are closed.
-fn close_lines(cell: &mut [u32])
-    requires { length cell.old ≡ 1029 }
-    ensures { Fills 69 960 (λ k. 0) cell.old cell.new }
-{
-    let mut k = 0;
-    while k < 960 {
-        cell[69 + k] = 0;
-        k += 1;
-    }
-}
-
-fn write_start(cell: &mut [u32], ca: &[u16], c0: u32, bcc: u32, ag: u32, p: u32)
-    requires { (length cell.old ≡ 1029) × (length ca.now ≤ 64) }
-    ensures { cell_of cell.new ≡ empty ca.now c0 bcc ag p }
-{
-    put_allocation(cell, ca);
-    close_lines(cell);
-    cell[64] = ca.len() as u32;
-    cell[65] = c0;
-    cell[66] = bcc;
-    cell[67] = ag;
-    cell[68] = p;
+    let words = [
+        (values.mask % 0x1_0000_0000) as u32,
+        (values.mask >> 32) as u32,
+        values.tn,
+        values.hsn,
+        values.maio,
+        values.combination,
+        values.tsc,
+        0,
+        0,
+        0,
+        0,
+        0,
+        0,
+        0,
+        0,
+    ];
+    let line = LINES_PLACE + LINE_WORDS * n;
+    cell[line..line + LINE_WORDS].copy_from_slice(&words);
 }
 
 // The words become a cell with this CA, C0, BCC, AG and P, and all lines closed; nothing is written where the list has more than 64 entries.
-pub fn put_start(cell: &mut [u32; WORDS], ca: &[u16], c0: u32, bcc: u32, ag: u32, p: u32)
-    ensures { cell_of cell.new ≡ started_from (cell_of cell.old) ca.now c0 bcc ag p }
+pub fn put_start(cell: &mut [u32; WORDS], ca: &[u16], parameters: Parameters)
+    ensures { cell_of cell.new ≡ started_from (cell_of cell.old) ca.now parameters }
 {
     if ca.len() > 64 {
         return;
     }
-    write_start(cell, ca, c0, bcc, ag, p);
+    cell.fill(0);
+    for (k, arfcn) in ca.iter().enumerate() {
+        cell[k] = u32::from(*arfcn);
+    }
+    cell[LENGTH_PLACE] = ca.len() as u32;
+    cell[C0_PLACE] = parameters.c0;
+    cell[BCC_PLACE] = parameters.bcc;
+    cell[AG_PLACE] = parameters.ag;
+    cell[P_PLACE] = parameters.p;
 }

@@ -1,2 +1,3 @@
+mod KindAt
 pub mod Computed
 pub mod Words

@@ -6,7 +6,8 @@ ghost use Rattle.maps.specs.Numbers.{standing_numbers, bytes};
 ghost use Rattle.maps.specs.Rows.{standing};
 
 // Four frames to a word, the first one last. A frame is four hexadecimal digits: 4 * block + place (two), subchannel, and the channel's number,
-// 0 for idle. Each key has an arm, so that the compiler makes a table of it without a test.
+// 0 for idle. Each key has an arm, so that the compiler makes a table of it without a test: an array
+// would be copied to the stack in each call.
 #[tactic(auto, using(crate::proofs::Words::word_at), unfolding(crate::proofs::Words::at_a_frame))]
 fn control_word(key: u32) -> u64
     requires { key < 208 }
@@ -237,10 +238,7 @@ fn control_word(key: u32) -> u64
 fn choose(first: bool, a: u64, b: u64) -> u64
     ensures { result ≡ cond first a b }
 {
-    if first {
-        return a;
-    }
-    b
+    if first { a } else { b }
 }
 
 // The digits of a frame as bytes.
@@ -256,6 +254,7 @@ fn spread(code: u64) -> u64
 
 // The bytes of combination 4, 5, 6 or 7 in a frame, downlink (0) or uplink (1). Any other combination is taken for the one of the four with its
 // remainder by 4, any other direction for its remainder by 2.
+#[tactic(auto, using(crate::proofs::Computed::control))]
 pub fn control(combination: u32, number: u32, direction: u32) -> u64
     ensures { result ≡ bytes (standing_numbers (standing (rows_of (4 + combination % 4) 0 (direction % 2)) number)) }
 {

@@ -6,7 +6,8 @@ ghost use Rattle.maps.specs.Numbers.{standing_numbers, bytes};
 ghost use Rattle.maps.specs.Rows.{standing};
 
 // The bytes of timeslot 0 in each h, from the last to the first: the refusal, channel, subchannel, how many blocks, block and place, and block and
-// place of the second. Each key has an arm, those of SACCH too, which `traffic` never asks for: so the compiler makes a table of it.
+// place of the second. Each key has an arm, those of SACCH too, which `traffic` never asks for: so the compiler makes a table of it, where
+// an array would be copied to the stack in each call.
 #[tactic(auto, unfolding(crate::specs::Codes::traffic_word, crate::proofs::Words::at_a_frame))]
 fn traffic_word(key: u32) -> u64
     requires { key < 52 }
@@ -72,7 +73,8 @@ fn traffic_word(key: u32) -> u64
 }
 
 // The frames h = 12 (half 0) and h = 25 (half 1): half rate (1) has SACCH of its two subchannels, full rate (0) has SACCH at 12 in an even
-// timeslot and at 25 in an odd one. In each pair of timeslots the places stand 26 frames later than in the pair before.
+// timeslot and at 25 in an odd one. In each pair of timeslots the places stand 26 frames later than in the pair before. Both are numbers, as
+// the bytes are computed from them.
 #[tactic(auto, unfolding(crate::specs::Codes::sacch_bytes))]
 fn sacch(rate: u32, tn: u32, turn: u32, half: u32) -> u64
     requires { (rate < 2) × ((turn < 4) × (half < 2)) }
@@ -83,11 +85,12 @@ fn sacch(rate: u32, tn: u32, turn: u32, half: u32) -> u64
     }
     let subchannel = half & rate;
     let place = (turn + 4 - tn % 8 / 2) % 4;
-    0x100_0200 + subchannel as u64 * 0x1_0000 + place as u64 * 0x100_0000_0000
+    0x100_0200 + u64::from(subchannel) * 0x1_0000 + u64::from(place) * 0x100_0000_0000
 }
 
 // The bytes of combination 1 (full rate) or 2 (half rate) in a frame of a timeslot, whatever the direction. Any other combination is taken for the
 // one of the two that has its bit 1, any other timeslot for its remainder by 8.
+#[tactic(auto, using(crate::proofs::Computed::traffic_sacch, crate::proofs::Computed::traffic_tch))]
 pub fn traffic(combination: u32, tn: u32, number: u32) -> u64
     ensures { result ≡ bytes (standing_numbers (standing (rows_of (1 + combination / 2 % 2) (tn % 8) 0) number)) }
 {

@@ -1,65 +1,36 @@
-// What a frame carries, from its eight bytes.
-ghost use Rattle.std.specs.Prelude.{◌≡◌, ◌<◌};
-ghost use Rattle.maps.specs.Channels.{kind_at};
+// What a frame carries, from its eight bytes (`frame_map` says what they are for).
+ghost use Rattle.std.specs.Prelude.{◌≡◌};
 ghost use Rattle.maps.specs.Map.{carried};
-ghost use Rattle.maps.specs.Numbers.{byte_at, numbers_at, standing_of};
+ghost use Rattle.maps.specs.Numbers.{numbers_at, standing_of};
 
 use maps::{Blocks, Burst, Content, Kind, Place};
 
-// Byte i, the lowest first.
-fn byte(bytes: u64, i: u32) -> u32
-    requires { i < 8 }
-    ensures { result ≡ byte_at bytes i }
-{
-    ((bytes >> (8 * i)) % 256) as u32
-}
-
-// The kind of a channel number.
-#[tactic(auto, unfolding(maps::specs::Channels::kind_at))]
-fn kind_at(n: u32) -> Kind
-    ensures { result ≡ kind_at n }
-{
-    match n {
-        1 => Kind::Tch,
-        2 => Kind::Sacch,
-        3 => Kind::Sdcch,
-        4 => Kind::Fcch,
-        5 => Kind::Sch,
-        6 => Kind::Bcch,
-        7 => Kind::Ccch,
-        _ => Kind::Rach,
-    }
-}
-
-// The content of a frame with these bytes.
-#[tactic(auto, unfolding(maps::specs::Numbers::standing_of))]
+// The content of a frame with these bytes, the lowest first: the refusal, channel, subchannel, how many blocks, block and place, and block and
+// place of the second.
+#[tactic(auto, using(crate::proofs::KindAt::kind_or_rach), unfolding(maps::specs::Numbers::standing_of))]
 pub fn unpack(bytes: u64) -> Content
     ensures { carried result ≡ standing_of (numbers_at bytes) }
 {
-    let channel = byte(bytes, 1);
+    let [_, channel, subchannel, blocks, block, place, block2, place2] = bytes.to_le_bytes();
     if channel == 0 {
         return Content::Idle;
     }
     let first = Place {
-        block: byte(bytes, 4),
-        place: byte(bytes, 5),
+        block: u32::from(block),
+        place: u32::from(place),
     };
-    let kind = kind_at(channel);
-    let subchannel = byte(bytes, 2);
-    if byte(bytes, 3) == 2 {
-        let second = Place {
-            block: byte(bytes, 6),
-            place: byte(bytes, 7),
-        };
-        return Content::Channel(Burst {
-            kind,
-            subchannel,
-            blocks: Blocks::Two(first, second),
-        });
-    }
+    let second = Place {
+        block: u32::from(block2),
+        place: u32::from(place2),
+    };
     Content::Channel(Burst {
-        kind,
-        subchannel,
-        blocks: Blocks::One(first),
+        // Each other number is taken for RACH's: the tables have none.
+        kind: Kind::try_from(u32::from(channel)).unwrap_or(Kind::Rach),
+        subchannel: u32::from(subchannel),
+        blocks: if blocks == 2 {
+            Blocks::Two(first, second)
+        } else {
+            Blocks::One(first)
+        },
     })
 }

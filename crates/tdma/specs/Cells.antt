@@ -2,18 +2,17 @@
 use Rattle.std.specs.Prelude.{ℕ, ◌≡◌, List}
 use Rattle.std.proofs.Math.Option.{Option, none, some}
 use Rattle.answers.specs.Outcome.{Outcome, refused, accepted}
-use Rattle.maps.specs.Numbers.{Numbers, no_numbers, standing_numbers}
+use Rattle.maps.specs.Numbers.{no_numbers, standing_numbers}
 use Rattle.storage.specs.Words.{cell_of}
 use Rattle.cell.specs.Leaves.{Untouched}
 use Rattle.rules.specs.Calls.{Step}
 use Rattle.rules.specs.OnAir.{Slot}
 use Rattle.rules.specs.Who.{Match}
-use Rattle.groups.specs.declared.PagingBlock.{PagingBlock}
 use Rattle.c_answers.specs.declared.TdmaAnswer.{TdmaAnswer}
 use Rattle.c_answers.specs.declared.TdmaLine.{TdmaLine}
 use Rattle.c_answers.specs.declared.TdmaWho.{TdmaWho}
-use Rattle.c_answers.specs.declared.TdmaPage.{TdmaPage}
 use Rattle.c_answers.specs.Numbers.{answer_numbers}
+pub use Rattle.c_answers.specs.Numbers.{line_fields, nobody, page_numbers}
 
 -- the answer, and the cell that the words hold after a call, are the definition's
 abbrev pub Left : TdmaAnswer → List ℕ → Step → Type 0
@@ -22,10 +21,6 @@ Left r words s = (r ≡ answer_numbers s.refusal) × (cell_of words ≡ s.cell)
 -- and where the call is refused, no word has changed
 abbrev pub Done : TdmaAnswer → List ℕ → List ℕ → Step → Type 0
 Done r before after s = Left r after s × Untouched s.refusal before after
-
-abbrev pub line_fields : ℕ → ℕ → Numbers → TdmaLine
-line_fields arfcn owner n =
-    record { refusal = n.refusal; arfcn = arfcn; owner = owner; channel = n.channel; subchannel = n.subchannel; blocks = n.blocks; block = n.block; place = n.place; block2 = n.block2; place2 = n.place2 }
 
 -- refused, every number but the refusal is 0
 abbrev pub line_numbers : Outcome Slot → TdmaLine
@@ -36,15 +31,7 @@ line_numbers (accepted s) = line_fields s.arfcn s.owner (standing_numbers s.stan
 abbrev pub match_numbers : Match → TdmaWho
 match_numbers f = record { refusal = 0; found = 1; line = f.line; answer = line_numbers (accepted f.slot) }
 
--- nobody, or a refusal: every other number is 0
-abbrev pub nobody : ℕ → TdmaWho
-nobody refusal = record { refusal = refusal; found = 0; line = 0; answer = line_fields 0 0 (no_numbers 0) }
-
 abbrev pub who_numbers : Outcome (Option Match) → TdmaWho
 who_numbers (refused r) = nobody r.number
 who_numbers (accepted none) = nobody 0
 who_numbers (accepted (some f)) = match_numbers f
-
-abbrev pub page_numbers : Outcome PagingBlock → TdmaPage
-page_numbers (refused r) = record { refusal = r.number; tn = 0; block = 0; frame = 0 }
-page_numbers (accepted b) = record { refusal = 0; tn = b.tn; block = b.block; frame = b.frame }

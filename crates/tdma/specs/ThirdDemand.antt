@@ -4,7 +4,8 @@ use Rattle.std.specs.Prelude.{ℕ, ◌<◌, ◌≡◌, List, [], ◌∷◌, eqb}
 use Rattle.std.proofs.Math.Option.{some}
 use Rattle.answers.specs.Outcome.{accepted}
 use Rattle.clock.specs.Clock.{hyperframe}
-use Rattle.rules.specs.State.{Cell, Values}
+use Rattle.rules.specs.State.{Cell}
+use Rattle.rules.specs.declared.Values.{Values}
 use Rattle.storage.specs.Words.{cell_of}
 use Rattle.rules.specs.Calls.{start_of}
 use Rattle.rules.specs.OnAir.{line_of}

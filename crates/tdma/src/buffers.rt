@@ -1,55 +1,72 @@
-// The bursts, one bit to a byte, in buffers that the caller lends.
-ghost use Rattle.layouts.specs.Bursts.{build_normal_of, take_normal_of, build_synchronization_of, take_synchronization_of, build_access_of, take_access_of, build_frequency_correction_of, build_dummy_of};
+// The bursts, one bit to a byte, in buffers that the caller lends. Each function is the C function of its name, one for each burst, as the header has
+// them.
+ghost use Rattle.std.specs.Prelude.{◌≡◌};
+ghost use Rattle.layouts.specs.Bursts.{wrote, build_normal_of, take_normal_of, build_synchronization_of, take_synchronization_of, build_access_of, take_access_of, build_frequency_correction_of, build_dummy_of};
 ghost use Rattle.tdma.specs.Buffers.{Wrote};
 
-use c_answers::{TdmaAnswer, answer_numbers};
+use answers::Refusal;
+use bursts::{Access, Dummy, FrequencyCorrection, Normal, Synchronization, build, take};
+use c_answers::TdmaAnswer;
+
+// The training sequence code is refused before all else.
+fn build_normal(tsc: u32, payload: &[u8], burst: &mut [u8]) -> Result<(), Refusal>
+    ensures { wrote result burst.new ≡ build_normal_of tsc payload.now burst.old }
+{
+    build(Normal::new(tsc)?, payload, burst)
+}
+
+fn take_normal(tsc: u32, burst: &[u8], payload: &mut [u8]) -> Result<(), Refusal>
+    ensures { wrote result payload.new ≡ take_normal_of tsc burst.now payload.old }
+{
+    take(Normal::new(tsc)?, burst, payload)
+}
 
 // A normal burst with this training sequence code and payload.
 pub fn tdma_build_normal(tsc: u32, payload: &[u8], burst: &mut [u8]) -> TdmaAnswer
     ensures { Wrote result burst.new (build_normal_of tsc payload.now burst.old) }
 {
-    answer_numbers(bursts::build_normal(tsc, payload, burst))
+    TdmaAnswer::from(build_normal(tsc, payload, burst))
 }
 
 // The payload of a normal burst with this training sequence code.
 pub fn tdma_take_normal(tsc: u32, burst: &[u8], payload: &mut [u8]) -> TdmaAnswer
     ensures { Wrote result payload.new (take_normal_of tsc burst.now payload.old) }
 {
-    answer_numbers(bursts::take_normal(tsc, burst, payload))
+    TdmaAnswer::from(take_normal(tsc, burst, payload))
 }
 
 pub fn tdma_build_synchronization(payload: &[u8], burst: &mut [u8]) -> TdmaAnswer
     ensures { Wrote result burst.new (build_synchronization_of payload.now burst.old) }
 {
-    answer_numbers(bursts::build_synchronization(payload, burst))
+    TdmaAnswer::from(build(Synchronization, payload, burst))
 }
 
 pub fn tdma_take_synchronization(burst: &[u8], payload: &mut [u8]) -> TdmaAnswer
     ensures { Wrote result payload.new (take_synchronization_of burst.now payload.old) }
 {
-    answer_numbers(bursts::take_synchronization(burst, payload))
+    TdmaAnswer::from(take(Synchronization, burst, payload))
 }
 
 pub fn tdma_build_access(payload: &[u8], burst: &mut [u8]) -> TdmaAnswer
     ensures { Wrote result burst.new (build_access_of payload.now burst.old) }
 {
-    answer_numbers(bursts::build_access(payload, burst))
+    TdmaAnswer::from(build(Access, payload, burst))
 }
 
 pub fn tdma_take_access(burst: &[u8], payload: &mut [u8]) -> TdmaAnswer
     ensures { Wrote result payload.new (take_access_of burst.now payload.old) }
 {
-    answer_numbers(bursts::take_access(burst, payload))
+    TdmaAnswer::from(take(Access, burst, payload))
 }
 
 pub fn tdma_build_frequency_correction(burst: &mut [u8]) -> TdmaAnswer
     ensures { Wrote result burst.new (build_frequency_correction_of burst.old) }
 {
-    answer_numbers(bursts::build_frequency_correction(burst))
+    TdmaAnswer::from(build(FrequencyCorrection, &[], burst))
 }
 
 pub fn tdma_build_dummy(burst: &mut [u8]) -> TdmaAnswer
     ensures { Wrote result burst.new (build_dummy_of burst.old) }
 {
-    answer_numbers(bursts::build_dummy(burst))
+    TdmaAnswer::from(build(Dummy, &[], burst))
 }

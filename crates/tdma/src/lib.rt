@@ -12,96 +12,59 @@ ghost use Rattle.hops.specs.Hopping.{position_of, hop_of};
 ghost use Rattle.maps.specs.Map.{map_of};
 ghost use Rattle.c_answers.specs.Numbers.{split_numbers, join_numbers, position_numbers, hop_numbers, map_numbers};
 
-use c_answers::{TdmaHop, TdmaJoin, TdmaMap, TdmaPosition, TdmaSplit, refusal_number, split_parts};
-use clock::{Frame, Joined, Split};
-use hopping::{Hopped, Positioned};
+use c_answers::{TdmaHop, TdmaJoin, TdmaMap, TdmaPosition, TdmaSplit};
+use clock::Frame;
 
 // FN to T1, T2, T3 and T3'.
 pub fn tdma_split(frame: u32) -> TdmaSplit
     ensures { result ≡ split_numbers (split_of frame) }
 {
-    match Frame::new(frame) {
-        Split::Parts(f) => split_parts(f),
-        Split::Refused(e) => TdmaSplit {
-            refusal: refusal_number(e),
-            t1: 0,
-            t2: 0,
-            t3: 0,
-            given: 0,
-            prime: 0,
-        },
-    }
+    TdmaSplit::from(Frame::new(frame))
 }
 
 // T1, T2, T3 to FN.
 pub fn tdma_join(t1: u32, t2: u32, t3: u32) -> TdmaJoin
     ensures { result ≡ join_numbers (join_of t1 t2 t3) }
 {
-    match Frame::join(t1, t2, t3) {
-        Joined::Number(n) => TdmaJoin {
-            refusal: 0,
-            frame: n,
-        },
-        Joined::Refused(e) => TdmaJoin {
-            refusal: refusal_number(e),
-            frame: 0,
-        },
-    }
+    TdmaJoin::from(Frame::join(t1, t2, t3))
 }
 
 // The position that a line uses in a frame, in a cell allocation of this length.
 pub fn tdma_position(length: u32, mask: u64, hsn: u32, maio: u32, frame: u32) -> TdmaPosition
     ensures { result ≡ position_numbers (position_of length mask hsn maio frame) }
 {
-    match hopping::position(length, mask, hsn, maio, frame) {
-        Positioned::At(p) => TdmaPosition {
-            refusal: 0,
-            position: p,
-        },
-        Positioned::Refused(e) => TdmaPosition {
-            refusal: refusal_number(e),
-            position: 0,
-        },
-    }
+    TdmaPosition::from(hopping::position(length, mask, hsn, maio, frame))
 }
 
 // The ARFCN that a line uses in a frame.
 pub fn tdma_hop(ca: &[u16], mask: u64, hsn: u32, maio: u32, frame: u32) -> TdmaHop
     ensures { result ≡ hop_numbers (hop_of ca.now mask hsn maio frame) }
 {
-    match hopping::hop(ca, mask, hsn, maio, frame) {
-        Hopped::Arfcn(a) => TdmaHop {
-            refusal: 0,
-            arfcn: a,
-        },
-        Hopped::Refused(e) => TdmaHop {
-            refusal: refusal_number(e),
-            arfcn: 0,
-        },
-    }
-}
-
-// Byte i of a number.
-fn byte(bytes: u64, i: u32) -> u8
-    requires { i < 8 }
-    ensures { result ≡ bytes / 2 ^ (8 * i) % 256 }
-{
-    ((bytes >> (8 * i)) % 256) as u8
+    TdmaHop::from(hopping::hop(ca, mask, hsn, maio, frame))
 }
 
 // What a line of this combination and timeslot has in a frame, downlink (0) or uplink (1).
 pub fn tdma_map(combination: u32, tn: u32, frame: u32, direction: u32) -> TdmaMap
     ensures { result ≡ map_numbers (map_of combination tn frame direction) }
 {
-    let bytes = frame_map::map_bytes(combination, tn, frame, direction);
+    let [
+        refusal,
+        channel,
+        subchannel,
+        blocks,
+        block,
+        place,
+        block2,
+        place2,
+    ] = frame_map::map_bytes(combination, tn, frame, direction).to_le_bytes();
     TdmaMap {
-        refusal: byte(bytes, 0),
-        channel: byte(bytes, 1),
-        subchannel: byte(bytes, 2),
-        blocks: byte(bytes, 3),
-        block: byte(bytes, 4),
-        place: byte(bytes, 5),
-        block2: byte(bytes, 6),
-        place2: byte(bytes, 7),
+        refusal,
+        channel,
+        subchannel,
+        blocks,
+        block,
+        place,
+        block2,
+        place2,
     }
 }

@@ -1,4 +1,4 @@
-// The bursts.
+// The bursts: the C functions, each handed on (lib.rt says why).
 ghost use Rattle.layouts.specs.Bursts.{build_normal_of, take_normal_of, build_synchronization_of, take_synchronization_of, build_access_of, take_access_of, build_frequency_correction_of, build_dummy_of};
 ghost use Rattle.tdma.specs.Buffers.{Wrote};
 

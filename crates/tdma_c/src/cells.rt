@@ -1,4 +1,4 @@
-// The calls of the cell.
+// The calls of the cell: the C functions, each handed on (lib.rt says why).
 ghost use Rattle.rules.specs.Calls.{start_of, open_of, close_of, seize_of, release_of};
 ghost use Rattle.rules.specs.OnAir.{line_of};
 ghost use Rattle.rules.specs.Paging.{page_of};

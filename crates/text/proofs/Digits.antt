@@ -1,57 +1,29 @@
--- Laws of digits, of the value of digits and of numbers in a row. Assumes nothing.
-use Prim.Native.Nat.{ℕ, zero, suc, ◌+◌, ◌-◌, ◌*◌, ◌^◌, ◌≤◌, ◌<◌, min}
-use mathlib.Core.Path.{◌≡◌, refl, sym, ap, ◌∙◌}
-use mathlib.Core.Bool.{Bool, true, false, cond, ◌&&◌}
-use mathlib.Core.List.{List, [], ◌∷◌, ◌++◌}
-use native.Mathlib.Nat.{le_refl, le_trans}
-use native.Mathlib.Numerals.{add-one}
-use native.Mathlib.Omega.{arith}
-use lib.Dec.{eqb}
-use lib.ListN.{length, take, drop, get_or, set, drop_of_length-le}
-use lib.Seq.{drop-cons, take-suc-set}
-use borrow.Author.Tests.{le-ltb, ne_eqb}
-use Rattle.wording.specs.declared.Numeral.{Numeral}
-use Rattle.wording.specs.declared.Numeral.TheVariants.{Value, NotDigits, TooLarge}
-use Rattle.wording.specs.Numbers.{is_digit, all_digits, is_number, value_from, within, number_of, Taken, took, wrong, with_number, numbers_after, list_after}
-use Rattle.wording.proofs.Digits.{some_digits}
-use Rattle.text.specs.declared.numbers.Values.{Values}
-use Rattle.wording.specs.Words.{words_of}
-use Rattle.text.specs.Numbers.{numbers_in}
-use Rattle.text.specs.Helpers.{reason_of}
+-- Laws of the value of digits and of numbers in a row. Assumes nothing.
+use Rattle.std.proofs.Common.{◌≡◌, ℕ, zero, suc, ◌+◌, ◌-◌, ◌*◌, ◌^◌, ◌<◌, ◌≤◌, min, Bool, false, cond, List, [], ◌∷◌, ◌++◌, length, take, drop, get_or, set, Result, Ok, Err, refl, sym, ap, ◌∙◌, add-one, arith, le_trans, drop-cons, length-append}
+use native.Mathlib.Nat.{le_refl}
+use lib.ListN.{drop_of_length-le}
+use lib.Seq.{take_all}
+use Rattle.std.proofs.Math.Seq.{take-suc-set}
+use borrow.Author.Tests.{le-ltb}
+use Rattle.wording.specs.declared.Reason.{Reason}
+use Rattle.wording.specs.declared.Reason.TheVariants.{TooFewWords, TooManyWords, NotANumber, NumberTooLarge}
+use Rattle.wording.proofs.Digits.{is_value}
+use Rattle.wording.specs.Numbers.{is_number, value_from, within, number_of, with_number, numbers_after, numbers_of, list_after}
 
--- ---- digits
+-- ---- a word's value
 
-digits_step : (c : ℕ) (w : List ℕ) (b : Bool) → is_digit c ≡ b → all_digits (c ∷ w) ≡ (b && all_digits w)
-unfolding all_digits
-digits_step c w b e = ap (λ (t : Bool). t && all_digits w) e
-
-pub none : (w : List ℕ) → length w ≡ 0 → is_number w ≡ false
+pub is_number-nothing : (w : List ℕ) → length w ≡ 0 → is_number w ≡ false
 unfolding is_number
-none [] h = refl
-none (c ∷ w) h = absurd (omega (arith, h))
+is_number-nothing [] h = refl
+is_number-nothing (c ∷ w) h = absurd (omega (arith, h))
 
-module _ (w : List ℕ) where
-  pub first_digits : 0 < length w → all_digits (drop 0 w) ≡ is_number w
-  first_digits h = sym (some_digits w h)
+value_more : (w : List ℕ) (i n : ℕ) → i < length w → value_from n (drop i w) ≡ value_from (10 * n + (get_or w i 0 - 48)) (drop (i + 1) w)
+unfolding value_from
+value_more w i n h = rw (add-one i, drop-cons w i 0 h) refl
 
-  module _ (i : ℕ) where
-    pub digits_more : i < length w → is_digit (get_or w i 0) ≡ true → all_digits (drop i w) ≡ all_digits (drop (i + 1) w)
-    digits_more h e = rw (add-one i, drop-cons w i 0 h) (digits_step _ _ true e)
-
-    pub digits_stop : i < length w → is_digit (get_or w i 0) ≡ false → all_digits (drop i w) ≡ false
-    digits_stop h e = rw (drop-cons w i 0 h) (digits_step _ _ false e)
-
-    pub digits_end : length w ≤ i → all_digits (drop i w) ≡ true
-    unfolding all_digits
-    digits_end h = ap all_digits (drop_of_length-le w {i = i} h)
-
-    pub value_more : (n : ℕ) → i < length w → value_from n (drop i w) ≡ value_from (10 * n + (get_or w i 0 - 48)) (drop (i + 1) w)
-    unfolding value_from
-    value_more n h = rw (add-one i, drop-cons w i 0 h) refl
-
-    pub value_end : (n : ℕ) → length w ≤ i → value_from n (drop i w) ≡ n
-    unfolding value_from
-    value_end n h = ap (value_from n) (drop_of_length-le w {i = i} h)
+value_end : (w : List ℕ) (i n : ℕ) → length w ≤ i → value_from n (drop i w) ≡ n
+unfolding value_from
+value_end w i n h = ap (value_from n) (drop_of_length-le w {i = i} h)
 
 -- more digits make no smaller number
 value_grows : (w : List ℕ) (n : ℕ) → n ≤ value_from n w
@@ -59,113 +31,110 @@ unfolding value_from
 value_grows [] n = le_refl n
 value_grows (c ∷ w) n = le_trans (omega arith) (value_grows w (10 * n + (c - 48)))
 
-pub is_too_large : (n m : ℕ) (w : List ℕ) → m ≡ value_from n w → 2 ^ 64 ≤ n → within m ≡ TooLarge
-unfolding within
-is_too_large n m w e h =
-    ap (λ (t : Bool). cond t (Value m) TooLarge) (le-ltb m (2 ^ 64) (le_trans h (rw e (value_grows w n))))
+-- the loop over a word: what the characters before i are worth is n
+module _ (w : List ℕ) (i n : ℕ) (inv : value_from n (drop i w) ≡ value_from 0 w) where
+  pub value_overflows : i < length w → 2 ^ 64 ≤ 10 * n + (get_or w i 0 - 48) → Err NumberTooLarge ≡ within (value_from 0 w)
+  unfolding within
+  value_overflows h large =
+      let grown : 10 * n + (get_or w i 0 - 48) ≤ value_from 0 w = rw (sym inv, value_more w i n h) (value_grows (drop (i + 1) w) (10 * n + (get_or w i 0 - 48))) in
+      sym (ap (λ (t : Bool). cond t (Ok (value_from 0 w)) (Err NumberTooLarge)) (le-ltb (value_from 0 w) (2 ^ 64) (omega arith)))
 
-pub number_none : (w : List ℕ) → is_number w ≡ false → number_of w ≡ NotDigits
+  pub value_kept : (m : ℕ) → i < length w → m ≡ 10 * n + (get_or w i 0 - 48) → value_from m (drop (i + 1) w) ≡ value_from 0 w
+  value_kept m h e = ap (λ (k : ℕ). value_from k (drop (i + 1) w)) e ∙ sym (value_more w i n h) ∙ inv
+
+  pub value_done : length w ≤ i → n < 2 ^ 64 → Ok n ≡ within (value_from 0 w)
+  value_done h s = sym (is_value n (value_from 0 w) (sym inv ∙ value_end w i n h) s)
+
+pub number_none : (w : List ℕ) → is_number w ≡ false → number_of w ≡ Err NotANumber
 unfolding number_of
-number_none w e = ap (λ (t : Bool). cond t (within (value_from 0 w)) NotDigits) e
+number_none w e = ap (λ (t : Bool). cond t (within (value_from 0 w)) (Err NotANumber)) e
 
--- ---- numbers in a row
+-- ---- a list of numbers to the line's end: ns are listed, and ws are left
 
--- a word that is no number is wrong, whatever would follow
-pub with_none : (m : Numeral) (f : ℕ → Taken) → 0 < reason_of m → with_number m f ≡ wrong (reason_of m)
-with_none (Value n) f h = absurd (omega (arith, h))
-with_none NotDigits f h = refl
-with_none TooLarge f h = refl
-
-module _ (ns : List ℕ) (k : ℕ) (ws : List (List ℕ)) where
-  pub numbers_more : (w : List ℕ) (rest : List (List ℕ)) (n : ℕ) → ws ≡ w ∷ rest → number_of w ≡ Value n
-      → numbers_after ns (suc k) ws ≡ numbers_after (ns ++ (n ∷ [])) k rest
-  unfolding numbers_after
-  numbers_more w rest n e v = rw e (ap (λ (m : Numeral). with_number m (λ n. numbers_after (ns ++ (n ∷ [])) k rest)) v)
-
-  pub numbers_few : ws ≡ [] → numbers_after ns (suc k) ws ≡ wrong 3
-  unfolding numbers_after
-  numbers_few e = rw e refl
-
-  pub numbers_wrong : (w : List ℕ) (rest : List (List ℕ)) (r : ℕ) → ws ≡ w ∷ rest → reason_of (number_of w) ≡ r → 0 < r → numbers_after ns (suc k) ws ≡ wrong r
-  unfolding numbers_after
-  numbers_wrong w rest r e v h = rw e (with_none (number_of w) _ (rw v h) ∙ ap wrong v)
-
--- a turn of the loop over m numbers, and its ends: what was taken, and what is still wanted of the words ws
-module _ (m i : ℕ) (values : List ℕ) (ws : List (List ℕ)) (whole : Taken) (inv : numbers_after (take i values) (m - i) ws ≡ whole) where
-  pub row_more : (w : List ℕ) (rest : List (List ℕ)) (n : ℕ) → i < m → i < length values → ws ≡ w ∷ rest → number_of w ≡ Value n
-      → numbers_after (take (i + 1) (set values i n)) (m - (i + 1)) rest ≡ whole
-  row_more w rest n h l e v =
-      let left : m - i ≡ suc (m - (i + 1)) = omega (arith, h) in
-      ap (λ (ns : List ℕ). numbers_after ns (m - (i + 1)) rest) (rw (add-one i) (take-suc-set values i n l))
-      ∙ sym (numbers_more (take i values) (m - (i + 1)) ws w rest n e v)
-      ∙ ap (λ (k : ℕ). numbers_after (take i values) k ws) (sym left)
-      ∙ inv
-
-  pub row_few : i < m → ws ≡ [] → wrong 3 ≡ whole
-  row_few h e =
-      let left : m - i ≡ suc (m - (i + 1)) = omega (arith, h) in
-      sym (numbers_few (take i values) (m - (i + 1)) ws e) ∙ ap (λ (k : ℕ). numbers_after (take i values) k ws) (sym left) ∙ inv
-
-  pub row_wrong : (w : List ℕ) (rest : List (List ℕ)) (r : ℕ) → i < m → ws ≡ w ∷ rest → reason_of (number_of w) ≡ r → 0 < r → wrong r ≡ whole
-  row_wrong w rest r h e v p =
-      let left : m - i ≡ suc (m - (i + 1)) = omega (arith, h) in
-      sym (numbers_wrong (take i values) (m - (i + 1)) ws w rest r e v p) ∙ ap (λ (k : ℕ). numbers_after (take i values) k ws) (sym left) ∙ inv
-
-  pub row_end : m ≤ i → i ≤ m → took (take m values) ws ≡ whole
-  unfolding numbers_after
-  row_end h l =
-      let left : m - i ≡ 0 = omega (arith, h) in
-      let all : m ≡ i = omega (arith, h, l) in
-      ap (λ (k : ℕ). took (take k values) ws) all ∙ ap (λ (k : ℕ). numbers_after (take i values) k ws) (sym left) ∙ inv
-
-pub wrong_in : (k : ℕ) (line : List ℕ) (r : Values) (n : ℕ) → r.reason ≡ n → 0 < n → numbers_in k line r ≡ wrong n
-wrong_in k line r n e h =
-    ap (λ (t : Bool). cond t (took (take k r.values) (words_of (drop r.end line))) (wrong r.reason)) (ne_eqb r.reason 0 (λ z. absurd (omega (arith, e, h, z))))
-    ∙ ap wrong e
-
--- ---- a list of numbers to the line's end
-
-list_nothing : (ns : List ℕ) (room : ℕ) → list_after ns room [] ≡ took ns []
+list_end : (ns : List ℕ) (k : ℕ) → list_after ns k [] ≡ Ok ns
 unfolding list_after
-list_nothing ns zero = refl
-list_nothing ns (suc room) = refl
+list_end ns zero = refl
+list_end ns (suc k) = refl
 
-module _ (ns : List ℕ) (room : ℕ) (ws : List (List ℕ)) where
-  pub list_done : ws ≡ [] → took ns [] ≡ list_after ns room ws
-  list_done e = sym (ap (list_after ns room) e ∙ list_nothing ns room)
+module _ (room : ℕ) (ns : List ℕ) (ws : List (List ℕ)) (whole : Result (List ℕ) Reason) (inv : list_after ns (room - length ns) ws ≡ whole) where
+  pub list_done : ws ≡ [] → whole ≡ Ok ns
+  list_done e = sym inv ∙ ap (list_after ns (room - length ns)) e ∙ list_end ns (room - length ns)
 
-  pub list_full : (w : List ℕ) (rest : List (List ℕ)) → ws ≡ w ∷ rest → wrong 4 ≡ list_after ns 0 ws
-  unfolding list_after
-  list_full w rest e = rw e refl
+  module _ (w : List ℕ) (rest : List (List ℕ)) (e : ws ≡ w ∷ rest) where
+    pub list_full : room ≤ length ns → whole ≡ Err TooManyWords
+    unfolding list_after
+    list_full h = let none : room - length ns ≡ 0 = omega arith in sym inv ∙ ap (λ (k : ℕ). list_after ns k ws) none ∙ ap (list_after ns 0) e
 
-  pub list_more : (w : List ℕ) (rest : List (List ℕ)) (n : ℕ) → ws ≡ w ∷ rest → number_of w ≡ Value n
-      → list_after ns (suc room) ws ≡ list_after (ns ++ (min n 65535 ∷ [])) room rest
-  unfolding list_after
-  list_more w rest n e v = rw e (ap (λ (m : Numeral). with_number m (λ n. list_after (ns ++ (min n 65535 ∷ [])) room rest)) v)
+    next : length ns < room → whole ≡ with_number (number_of w) (λ n. list_after (ns ++ (min n 65535 ∷ [])) (room - suc (length ns)) rest)
+    unfolding list_after
+    next h = let some : room - length ns ≡ suc (room - suc (length ns)) = omega arith in sym inv ∙ ap (λ (k : ℕ). list_after ns k ws) some ∙ ap (list_after ns (suc (room - suc (length ns)))) e
 
-  pub list_wrong : (w : List ℕ) (rest : List (List ℕ)) (r : ℕ) → ws ≡ w ∷ rest → reason_of (number_of w) ≡ r → 0 < r → list_after ns (suc room) ws ≡ wrong r
-  unfolding list_after
-  list_wrong w rest r e v h = rw e (with_none (number_of w) _ (rw v h) ∙ ap wrong v)
+    pub list_wrong : length ns < room → (r : Reason) → number_of w ≡ Err r → whole ≡ Err r
+    list_wrong h r f = next h ∙ ap (λ (m : Result ℕ Reason). with_number m (λ n. list_after (ns ++ (min n 65535 ∷ [])) (room - suc (length ns)) rest)) f
 
--- a turn of the loop over a list with room for so many, and its ends
-module _ (size i : ℕ) (out : List ℕ) (ws : List (List ℕ)) (whole : Taken) (inv : list_after (take i out) (size - i) ws ≡ whole) where
-  pub entry_more : (w : List ℕ) (rest : List (List ℕ)) (n v : ℕ) → i < size → i < length out → ws ≡ w ∷ rest → number_of w ≡ Value n → v ≡ min n 65535
-      → list_after (take (i + 1) (set out i v)) (size - (i + 1)) rest ≡ whole
-  entry_more w rest n v h l e q ev =
-      let left : size - i ≡ suc (size - (i + 1)) = omega (arith, h) in
-      ap (λ (ns : List ℕ). list_after ns (size - (i + 1)) rest) (rw (add-one i) (take-suc-set out i v l))
-      ∙ ap (λ (m : ℕ). list_after (take i out ++ (m ∷ [])) (size - (i + 1)) rest) ev
-      ∙ sym (list_more (take i out) (size - (i + 1)) ws w rest n e q)
-      ∙ ap (λ (k : ℕ). list_after (take i out) k ws) (sym left)
-      ∙ inv
+    pub list_more : length ns < room → (n v : ℕ) → number_of w ≡ Ok n → v ≡ min n 65535 → list_after (ns ++ (v ∷ [])) (room - length (ns ++ (v ∷ []))) rest ≡ whole
+    list_more h n v f g =
+        let left : room - length (ns ++ (v ∷ [])) ≡ room - suc (length ns) = omega (arith, length-append ns (v ∷ [])) in
+        ap (λ (k : ℕ). list_after (ns ++ (v ∷ [])) k rest) left
+        ∙ ap (λ (m : ℕ). list_after (ns ++ (m ∷ [])) (room - suc (length ns)) rest) g
+        ∙ sym (ap (λ (m : Result ℕ Reason). with_number m (λ n. list_after (ns ++ (min n 65535 ∷ [])) (room - suc (length ns)) rest)) f)
+        ∙ sym (next h)
 
-  pub entry_none : ws ≡ [] → took (take i out) [] ≡ whole
-  entry_none e = list_done (take i out) (size - i) ws e ∙ inv
+-- ---- one number of many
 
-  pub entry_wrong : (w : List ℕ) (rest : List (List ℕ)) (r : ℕ) → i < size → ws ≡ w ∷ rest → reason_of (number_of w) ≡ r → 0 < r → wrong r ≡ whole
-  entry_wrong w rest r h e v p =
-      let left : size - i ≡ suc (size - (i + 1)) = omega (arith, h) in
-      sym (list_wrong (take i out) (size - (i + 1)) ws w rest r e v p) ∙ ap (λ (k : ℕ). list_after (take i out) k ws) (sym left) ∙ inv
+pub one_missing : (ws : List (List ℕ)) → ws ≡ [] → numbers_of 1 ws ≡ Err TooFewWords
+unfolding numbers_after
+one_missing ws e = ap (numbers_after [] 1) e
 
-pub wrong_list : (out : List ℕ) (n : ℕ) (t u : Taken) → 0 < n → cond (eqb n 0) t u ≡ u
-wrong_list out n t u h = ap (λ (b : Bool). cond b t u) (ne_eqb n 0 (λ z. absurd (omega (arith, h, z))))
+module _ (ws : List (List ℕ)) (w : List ℕ) (rest : List (List ℕ)) (e : ws ≡ w ∷ rest) where
+  pub one_wrong : (r : Reason) → number_of w ≡ Err r → numbers_of 1 ws ≡ Err r
+  unfolding numbers_after
+  one_wrong r f = ap (numbers_after [] 1) e ∙ ap (λ (m : Result ℕ Reason). with_number m (λ n. numbers_after (n ∷ []) 0 rest)) f
+
+  pub one_number : (n : ℕ) → number_of w ≡ Ok n → numbers_of 1 ws ≡ Ok (n ∷ [], rest)
+  unfolding numbers_after
+  one_number n f = ap (numbers_after [] 1) e ∙ ap (λ (m : Result ℕ Reason). with_number m (λ n. numbers_after (n ∷ []) 0 rest)) f
+
+first_wrong : (ns : List ℕ) (k : ℕ) (ws : List (List ℕ)) (r : Reason) → numbers_of 1 ws ≡ Err r → numbers_after ns (suc k) ws ≡ Err r
+unfolding numbers_after
+first_wrong ns k [] r e = cc
+first_wrong ns k (w ∷ ws) r e = go (number_of w) e
+  where
+    go : (m : Result ℕ Reason) → with_number m (λ n. numbers_after ([] ++ (n ∷ [])) 0 ws) ≡ Err r → with_number m (λ n. numbers_after (ns ++ (n ∷ [])) k ws) ≡ Err r
+    go (Ok n) f = absurd (cc)
+    go (Err q) f = cc
+
+first_more : (ns : List ℕ) (k : ℕ) (ws : List (List ℕ)) (n : ℕ) (rest : List (List ℕ)) → numbers_of 1 ws ≡ Ok (n ∷ [], rest) → numbers_after ns (suc k) ws ≡ numbers_after (ns ++ (n ∷ [])) k rest
+unfolding numbers_after
+first_more ns k [] n rest e = absurd (cc)
+first_more ns k (w ∷ ws) n rest e = go (number_of w) e
+  where
+    go : (m : Result ℕ Reason) → with_number m (λ n. numbers_after ([] ++ (n ∷ [])) 0 ws) ≡ Ok (n ∷ [], rest) → with_number m (λ n. numbers_after (ns ++ (n ∷ [])) k ws) ≡ numbers_after (ns ++ (n ∷ [])) k rest
+    go (Ok q) f =
+        let both : ◌≡◌ {A = List ℕ × List (List ℕ)} (q ∷ [], ws) (n ∷ [], rest) = cc in
+        let one : q ∷ [] ≡ n ∷ [] = ap (λ (p : List ℕ × List (List ℕ)). p.0) both in
+        let others : ws ≡ rest = ap (λ (p : List ℕ × List (List ℕ)). p.1) both in
+        cc
+    go (Err q) f = absurd (cc)
+
+-- ---- as many numbers as there are places: those before i are taken, and ws are left
+module _ (count i : ℕ) (ns : List ℕ) (ws : List (List ℕ)) (whole : Result (List ℕ × List (List ℕ)) Reason) (inv : numbers_after (take i ns) (count - i) ws ≡ whole) where
+  pub fill_done : length ns ≤ i → count ≤ i → whole ≡ Ok (ns, ws)
+  unfolding numbers_after
+  fill_done l h =
+      let none : count - i ≡ 0 = omega arith in
+      sym inv ∙ ap (λ (k : ℕ). numbers_after (take i ns) k ws) none ∙ ap (λ (ms : List ℕ). Ok (ms, ws)) (take_all i ns l)
+
+  module _ (h : i < count) where
+    some : numbers_after (take i ns) (suc (count - suc i)) ws ≡ whole
+    some = let e : count - i ≡ suc (count - suc i) = omega arith in ap (λ (k : ℕ). numbers_after (take i ns) k ws) (sym e) ∙ inv
+
+    pub fill_wrong : (r : Reason) → numbers_of 1 ws ≡ Err r → whole ≡ Err r
+    fill_wrong r e = sym some ∙ first_wrong (take i ns) (count - suc i) ws r e
+
+    pub fill_more : i < length ns → (n : ℕ) (rest : List (List ℕ)) → numbers_of 1 ws ≡ Ok (n ∷ [], rest) → numbers_after (take (i + 1) (set ns i n)) (count - (i + 1)) rest ≡ whole
+    fill_more l n rest e =
+        ap (λ (ms : List ℕ). numbers_after ms (count - (i + 1)) rest) (rw (add-one i) (take-suc-set ns i n l))
+        ∙ ap (λ (k : ℕ). numbers_after (take i ns ++ (n ∷ [])) (count - k) rest) (add-one i)
+        ∙ sym (first_more (take i ns) (count - suc i) ws n rest e)
+        ∙ some

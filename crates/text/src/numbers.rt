@@ -1,252 +1,129 @@
-// Numbers in a line.
-ghost use Rattle.std.specs.Prelude.{◌-◌, ◌≤◌, min, ◌≡◌, map, length, take, drop};
+// The numbers in a line, and why a line has none where they are wanted.
+ghost use Rattle.std.specs.Prelude.{ℕ, ◌≡◌, List, [], ◌∷◌, ◌++◌, map, take, IfOk, IfErr, Ok, Err, MatchResult};
 ghost use Rattle.wording.specs.Words.{words_of};
-ghost use Rattle.wording.specs.Numbers.{is_digit, is_number, value_from, within, number_of, numbers_of, only_of, list_of, parameter, figure};
-ghost use Rattle.text.specs.Numbers.{numbers_in, list_in};
-ghost use Rattle.text.specs.Helpers.{AheadNumber, Ends};
+ghost use Rattle.wording.specs.Numbers.{is_number, value_from, within, number_of, numbers_of, only_of, list_of, parameter, figure};
 
-use crate::least;
-use crate::words::{Next, next_word};
-use wording::Numeral;
-
-// Why a line is no command, by number.
-pub const UNKNOWN_COMMAND: u32 = 1;
-
-pub const UNKNOWN_BURST: u32 = 2;
-
-pub const TOO_FEW: u32 = 3;
-
-pub const TOO_MANY: u32 = 4;
-
-pub const NOT_A_NUMBER: u32 = 5;
-
-pub const TOO_LARGE: u32 = 6;
-
-pub const COUNT_TOO_LARGE: u32 = 7;
-
-pub const LINE_TOO_LONG: u32 = 8;
-
-fn is_digit(c: u8) -> bool
-    ensures { result ≡ is_digit c }
-{
-    (c >= 48) & (c <= 57)
-}
+use crate::words::next_word;
+use arrayvec::ArrayVec;
+use wording::Reason;
 
 // One digit or more, and nothing else.
 fn is_number(word: &[u8]) -> bool
     ensures { result ≡ is_number word.now }
 {
-    if word.len() == 0 {
-        return false;
-    }
-    let mut i = 0;
-    while i < word.len() {
-        if !is_digit(word[i]) {
-            return false;
-        }
-        i += 1;
-    }
-    true
+    !word.is_empty() && word.iter().all(|c| c.is_ascii_digit())
 }
 
-// What a character is worth as a digit; one below '0', nothing.
-fn worth(c: u8) -> u64
-    ensures { result ≡ c - 48 }
-{
-    if c < 48 {
-        return 0;
-    }
-    (c - 48) as u64
-}
-
-// The value of the characters as digits, first digit highest.
-fn value(word: &[u8]) -> Numeral
+// The value of the characters as digits, first digit highest. By hand, since `str::parse` takes a leading + as well, and has one error where two
+// reasons are told.
+fn value(word: &[u8]) -> Result<u64, Reason>
     ensures { result ≡ within (value_from 0 word.now) }
 {
     let mut n: u64 = 0;
-    let mut i = 0;
-    while i < word.len() {
-        let d = worth(word[i]);
-        if n > (18446744073709551615 - d) / 10 {
-            return Numeral::TooLarge;
-        }
-        n = 10 * n + d;
-        i += 1;
+    for &c in word {
+        let digit = u64::from(c.saturating_sub(b'0'));
+        let tens = n.checked_mul(10).ok_or(Reason::NumberTooLarge)?;
+        n = tens.checked_add(digit).ok_or(Reason::NumberTooLarge)?;
     }
-    Numeral::Value(n)
+    Ok(n)
 }
 
 // The number that a word is.
-pub fn number(word: &[u8]) -> Numeral
+pub fn number(word: &[u8]) -> Result<u64, Reason>
     ensures { result ≡ number_of word.now }
 {
     if !is_number(word) {
-        return Numeral::NotDigits;
+        return Err(Reason::NotANumber);
     }
     value(word)
 }
 
-#[derive(Clone, Copy)]
-enum Took {
-    // The number that the next word is, and where the word ends.
-    Number(u64, usize),
-    // There is no word.
-    End,
-    // The word is no number: the reason.
-    Wrong(u32),
-}
-
-// The number that the first word at or after `from` is.
-fn number_at(line: &[u8], from: usize) -> Took
-    ensures { AheadNumber line.now from result }
+// The number that the next word is, and what follows it, an end of the line.
+fn next_number(line: &[u8]) -> Result<(u64, &[u8]), Reason>
+    ensures ok { IfOk result (λ found. numbers_of 1 (words_of line.now) ≡ Ok (found.0 ∷ [], words_of found.1.now)) }
+    ensures end { IfOk result (λ found. (front : List ℕ) × (front ++ found.1.now ≡ line.now)) }
+    ensures err { IfErr result (λ reason. numbers_of 1 (words_of line.now) ≡ Err reason) }
 {
-    match next_word(line, from) {
-        Next::Nothing => Took::End,
-        Next::Word(start, end) => match number(&line[start..end]) {
-            Numeral::Value(n) => Took::Number(n, end),
-            Numeral::NotDigits => Took::Wrong(NOT_A_NUMBER),
-            Numeral::TooLarge => Took::Wrong(TOO_LARGE),
-        },
-    }
+    let (word, rest) = next_word(line).ok_or(Reason::TooFewWords)?;
+    Ok((number(word)?, rest))
 }
 
-// As many numbers as were asked for, and where the last one ends; or the reason, if `reason` is not 0.
-#[derive(Clone, Copy)]
-pub struct Values {
-    pub reason: u32,
-    pub values: [u64; 7],
-    pub end: usize,
-}
-
-fn no_values(reason: u32) -> Values
-    ensures { result.reason ≡ reason }
+// The numbers that the next words are, as many as there are places; the result is what follows them.
+fn fill<'a, const N: usize>(line: &'a [u8], values: &mut [u64; N]) -> Result<&'a [u8], Reason>
+    ensures ok { IfOk result (λ rest. numbers_of N (words_of line.now) ≡ Ok (values.new, words_of rest.now)) }
+    ensures end { IfOk result (λ rest. (front : List ℕ) × (front ++ rest.now ≡ line.now)) }
+    ensures err { IfErr result (λ reason. numbers_of N (words_of line.now) ≡ Err reason) }
 {
-    Values {
-        reason,
-        values: [0; 7],
-        end: 0,
+    let mut rest = line;
+    for value in values {
+        let (n, after) = next_number(rest)?;
+        *value = n;
+        rest = after;
     }
+    Ok(rest)
 }
 
-// The numbers that the next words are: so many of them, at most seven.
-pub fn numbers(line: &[u8], from: usize, count: usize) -> Values
-    ensures { numbers_in (min count 7) line.now result ≡ numbers_of (min count 7) (words_of (drop from line.now)) }
+// The numbers that the next words are, and what follows them, an end of the line.
+pub fn numbers<const N: usize>(line: &[u8]) -> Result<([u64; N], &[u8]), Reason>
+    ensures ok { IfOk result (λ taken. numbers_of N (words_of line.now) ≡ Ok (taken.0, words_of taken.1.now)) }
+    ensures end { IfOk result (λ taken. (front : List ℕ) × (front ++ taken.1.now ≡ line.now)) }
+    ensures err { IfErr result (λ reason. numbers_of N (words_of line.now) ≡ Err reason) }
 {
-    let most = least(count, 7);
-    let mut values = [0u64; 7];
-    let mut end = from;
-    let mut i = 0;
-    while i < most {
-        match number_at(line, end) {
-            Took::Number(n, after) => {
-                values[i] = n;
-                end = after;
-                i += 1;
-            }
-            Took::End => return no_values(TOO_FEW),
-            Took::Wrong(reason) => return no_values(reason),
-        }
-    }
-    Values {
-        reason: 0,
-        values,
-        end,
-    }
+    let mut values = [0; N];
+    let rest = fill(line, &mut values)?;
+    Ok((values, rest))
 }
 
-// The numbers that the next words are, so many of them, and no further word.
-pub fn only(line: &[u8], from: usize, count: usize) -> Values
-    ensures { numbers_in (min count 7) line.now result ≡ only_of (min count 7) (words_of (drop from line.now)) }
+// The numbers that the next words are, and no further word.
+pub fn only<const N: usize>(line: &[u8]) -> Result<[u64; N], Reason>
+    ensures { result ≡ only_of N (words_of line.now) }
 {
-    let taken = numbers(line, from, count);
-    if taken.reason != 0 {
-        return taken;
+    let mut values = [0; N];
+    let rest = fill(line, &mut values)?;
+    if next_word(rest).is_some() {
+        return Err(Reason::TooManyWords);
     }
-    match next_word(line, taken.end) {
-        Next::Nothing => taken,
-        Next::Word(_, _) => no_values(TOO_MANY),
-    }
-}
-
-// A number as 16 bits hold it: a larger one as the largest.
-pub fn narrow16(n: u64) -> u16
-    ensures { result ≡ min n 65535 }
-{
-    if n > 65535 {
-        return 65535;
-    }
-    n as u16
+    Ok(values)
 }
 
 // A number as 32 bits hold it: a larger one as the largest.
 pub fn narrow(n: u64) -> u32
     ensures { result ≡ parameter n }
 {
-    if n > 4294967295 {
-        return 4294967295;
-    }
-    n as u32
+    u32::try_from(n).unwrap_or(u32::MAX)
 }
 
-// How many numbers there were; or the reason, if `reason` is not 0.
-#[derive(Clone, Copy)]
-pub struct Listed {
-    pub reason: u32,
-    pub count: usize,
-}
-
-// No further word, or too many.
-fn ends(line: &[u8], from: usize, count: usize) -> Listed
-    ensures { Ends line.now from count result }
+// The numbers that all the words are, each as 16 bits hold it, in place of what the list had: as many as it has room for.
+pub fn list<const N: usize>(line: &[u8], out: &mut ArrayVec<u16, N>) -> Result<(), Reason>
+    ensures ok { IfOk result (λ _. list_of N (words_of line.now) ≡ Ok out.new.items) }
+    ensures err { IfErr result (λ reason. list_of N (words_of line.now) ≡ Err reason) }
 {
-    match next_word(line, from) {
-        Next::Nothing => Listed { reason: 0, count },
-        Next::Word(_, _) => Listed {
-            reason: TOO_MANY,
-            count: 0,
-        },
-    }
-}
-
-// The numbers that all the next words are, each as 16 bits hold it, as many as there is room for.
-pub fn list(line: &[u8], from: usize, out: &mut [u16]) -> Listed
-    ensures { (length out.new ≡ length out.old) × (result.count ≤ length out.old) × (list_in out.new result ≡ list_of (length out.old) (words_of (drop from line.now))) }
-{
-    let mut end = from;
-    let mut count = 0;
-    while count < out.len() {
-        match number_at(line, end) {
-            Took::Number(n, after) => {
-                out[count] = narrow16(n);
-                end = after;
-                count += 1;
-            }
-            Took::End => return Listed { reason: 0, count },
-            Took::Wrong(reason) => return Listed { reason, count: 0 },
+    out.clear();
+    let mut rest = line;
+    while let Some((word, after)) = next_word(rest) {
+        if out.is_full() {
+            return Err(Reason::TooManyWords);
         }
+        out.push(u16::try_from(number(word)?).unwrap_or(u16::MAX));
+        rest = after;
     }
-    ends(line, end, count)
+    Ok(())
 }
 
-// What a character of an IMSI or of bits goes in as.
+// What a character of an IMSI or of bits goes in as: what is no digit as 255, which the calls refuse.
 fn figure_of(c: u8) -> u8
     ensures { result ≡ figure c }
 {
-    if is_digit(c) {
-        return c - 48;
-    }
-    255
+    if c.is_ascii_digit() { c - b'0' } else { 255 }
 }
 
 // The characters of a word as numbers, as many as there is room for.
-pub fn figures(word: &[u8], out: &mut [u8]) -> usize
-    ensures { (length out.new ≡ length out.old) × (result ≡ min (length word.now) (length out.old)) × (take result out.new ≡ take result (map figure word.now)) }
+pub fn figures<const N: usize>(word: &[u8]) -> ArrayVec<u8, N>
+    ensures { result.items ≡ take N (map figure word.now) }
 {
-    let n = least(word.len(), out.len());
-    let mut i = 0;
-    while i < n {
-        out[i] = figure_of(word[i]);
-        i += 1;
+    let mut figures = ArrayVec::new();
+    for &c in word {
+        let _ = figures.try_push(figure_of(c));
     }
-    n
+    figures
 }

@@ -1,68 +1,45 @@
-// Where lines and words begin and end.
-ghost use Rattle.std.specs.Prelude.{◌+◌, ◌≡◌, length, drop};
-ghost use Rattle.wording.specs.Words.{until, run, same_text};
-ghost use Rattle.text.specs.Words.{Ahead};
+// The words of a line, and the lines of a text.
+ghost use Rattle.std.specs.Prelude.{◌≡◌, ◌∷◌, [], ◌++◌, ◌<◌, length, IfNone, IfSome};
+ghost use Rattle.wording.specs.Words.{until, run, words_of};
 
-// The first place at or after `from` that has this byte, or the end.
-pub fn find(text: &[u8], from: usize, byte: u8) -> usize
-    ensures { result ≡ from + length (until byte (drop from text.now)) }
+// What stands before the first byte that is this one, and the rest, from that byte on: none, where there is no such byte.
+pub fn split_before(text: &[u8], byte: u8) -> (&[u8], &[u8])
+    ensures front { result.0.now ≡ until byte text.now }
+    ensures whole { result.0.now ++ result.1.now ≡ text.now }
 {
-    let mut i = from;
-    while i < text.len() {
-        if text[i] == byte {
-            return i;
-        }
-        i += 1;
-    }
-    i
+    text.split_at(text.iter().position(|&c| c == byte).unwrap_or(text.len()))
 }
 
-// The first place at or after `from` that has another byte, or the end.
-pub fn pass(text: &[u8], from: usize, byte: u8) -> usize
-    ensures { result ≡ from + length (run byte (drop from text.now)) }
+// What follows as many of this byte as there are at the start. Beside `split_before`: one function over a closure would be no plainer than these two lines.
+pub fn trim_start(text: &[u8], byte: u8) -> &[u8]
+    ensures { run byte text.now ++ result.now ≡ text.now }
 {
-    let mut i = from;
-    while i < text.len() {
-        if text[i] != byte {
-            return i;
-        }
-        i += 1;
-    }
-    i
+    let (_, rest) = text.split_at(text.iter().position(|&c| c != byte).unwrap_or(text.len()));
+    rest
 }
 
-#[derive(Clone, Copy)]
-pub enum Next {
-    // From `start` up to, not including, `end`.
-    Word(usize, usize),
-    Nothing,
+// The first word of a line and what follows it.
+pub fn next_word(line: &[u8]) -> Option<(&[u8], &[u8])>
+    ensures none { IfNone result (words_of line.now ≡ []) }
+    ensures word { IfSome result (λ found. words_of line.now ≡ found.0.now ∷ words_of found.1.now) }
+    ensures whole { IfSome result (λ found. run 32 line.now ++ found.0.now ++ found.1.now ≡ line.now) }
+    ensures shorter { IfSome result (λ found. length found.1.now < length line.now) }
+{
+    let (word, rest) = split_before(trim_start(line, b' '), b' ');
+    if word.is_empty() {
+        return None;
+    }
+    Some((word, rest))
 }
 
-// The first word of a line at or after `from`.
-pub fn next_word(line: &[u8], from: usize) -> Next
-    ensures { Ahead line.now from result }
+// The first line of a text that has an end, and what follows the end.
+pub fn next_line(text: &[u8]) -> Option<(&[u8], &[u8])>
+    ensures none { IfNone result (until 10 text.now ≡ text.now) }
+    ensures line { IfSome result (λ found. found.0.now ≡ until 10 text.now) }
+    ensures rest { IfSome result (λ found. text.now ≡ found.0.now ++ 10 ∷ found.1.now) }
+    ensures shorter { IfSome result (λ found. length found.1.now < length text.now) }
 {
-    let start = pass(line, from, b' ');
-    if start >= line.len() {
-        return Next::Nothing;
-    }
-    let end = find(line, start, b' ');
-    Next::Word(start, end)
-}
-
-// Both have the same bytes.
-pub fn same(a: &[u8], b: &[u8]) -> bool
-    ensures { result ≡ same_text a.now b.now }
-{
-    if a.len() != b.len() {
-        return false;
-    }
-    let mut i = 0;
-    while i < a.len() {
-        if a[i] != b[i] {
-            return false;
-        }
-        i += 1;
-    }
-    true
+    let (line, rest) = split_before(text, b'\n');
+    let (_, rest) = rest.split_first()?;
+    Some((line, rest))
 }

@@ -1,12 +1,13 @@
 -- Laws of a number's digits and of the value of digits. Assumes nothing.
 use Prim.Native.Nat.{ℕ, suc, ◌+◌, ◌/◌, ◌%◌, ◌^◌, ◌≤◌, ◌<◌}
+use Rattle.std.specs.Prelude.{Ok, Err}
 use mathlib.Core.Path.{◌≡◌, refl, ap}
 use mathlib.Core.Bool.{Bool, true, cond}
 use mathlib.Core.List.{List, [], ◌∷◌, ◌++◌}
 use native.Mathlib.Omega.{arith}
 use lib.ListN.{length}
 use borrow.Author.Tests.{lt-ltb, le-ltb}
-use Rattle.wording.specs.declared.Numeral.TheVariants.{Value, NotDigits, TooLarge}
+use Rattle.wording.specs.declared.Reason.TheVariants.{NotANumber, NumberTooLarge}
 use Rattle.wording.specs.Numbers.{all_digits, is_number, value_from, within, number_of}
 use Rattle.wording.specs.Print.{decimal_within}
 
@@ -17,13 +18,13 @@ unfolding is_number
 some_digits [] h = absurd (omega (arith, h))
 some_digits (c ∷ w) h = refl
 
-pub is_value : (n m : ℕ) → m ≡ n → n < 2 ^ 64 → within m ≡ Value n
+pub is_value : (n m : ℕ) → m ≡ n → n < 2 ^ 64 → within m ≡ Ok n
 unfolding within
-is_value n m e h = rw e (ap (λ (t : Bool). cond t (Value n) TooLarge) (lt-ltb n (2 ^ 64) h))
+is_value n m e h = rw e (ap (λ (t : Bool). cond t (Ok n) (Err NumberTooLarge)) (lt-ltb n (2 ^ 64) h))
 
 pub number_value : (w : List ℕ) → is_number w ≡ true → number_of w ≡ within (value_from 0 w)
 unfolding number_of
-number_value w e = ap (λ (t : Bool). cond t (within (value_from 0 w)) NotDigits) e
+number_value w e = ap (λ (t : Bool). cond t (within (value_from 0 w)) (Err NotANumber)) e
 
 -- ---- a number's
 

@@ -1,12 +1,12 @@
 -- specs/Examples.antt computed. Assumes nothing.
 use mathlib.Core.Path.{refl}
 use lib.Dec.{lit≤}
+use Rattle.answers.specs.Outcome.{any_of}
+use Rattle.clock.specs.Clock.{prime_of}
 use Rattle.wording.specs.Words.{until, run, in_word, joined, words_of, same_text}
-use Rattle.wording.specs.Numbers.{all_digits, is_number, value_from, within, number_of, numbers_after, list_after}
-use Rattle.wording.specs.Print.{decimal_within, spaced}
-use Rattle.wording.specs.Names.{place_among, command_of, burst_of}
-use Rattle.wording.specs.Replies.{refused_text, numbers_text, split_text, channel_text, content_text, map_text, slot_text, line_text, who_text, bits_text, reason_text, error_text}
-use Rattle.wording.specs.Table.{direction_text, head_text, title_text, frame_text, holder_text, block_text, cell_text}
+use Rattle.wording.specs.Numbers.{is_number, value_from, within, number_of, numbers_after, list_after}
+use Rattle.wording.specs.Print.{decimal_within, spaced, written}
+use Rattle.wording.specs.Names.{named, command_of, burst_of}
 use Rattle.wording.specs.Examples.{WordExamples, NumberExamples, PrintExamples, NameExamples, ReplyExamples, TableExamples}
 
 pub words : WordExamples
@@ -27,7 +27,7 @@ words =
     }
 
 pub numbers : NumberExamples
-unfolding all_digits is_number value_from within number_of numbers_after list_after
+unfolding is_number value_from within number_of numbers_after list_after
 numbers =
     record {
       largest = refl;
@@ -51,7 +51,7 @@ numbers =
     }
 
 pub print : PrintExamples
-unfolding decimal_within spaced
+unfolding decimal_within spaced written
 print =
     record {
       digit = refl;
@@ -63,19 +63,22 @@ print =
       too_narrow = refl;
       row = refl;
       bits = refl;
+      fills = refl;
+      cuts = refl;
       filled = record { same_length = refl; inside = lit≤ {m = 3} {n = 3} tt; written = refl };
       cut = record { same_length = refl; inside = lit≤ {m = 3} {n = 3} tt; written = refl };
     }
 
 pub names : NameExamples
-unfolding same_text place_among command_of burst_of
+unfolding same_text named command_of burst_of
 names = record { commands = refl; later_commands = refl; bursts = refl; none = refl; no_burst = refl }
 
 pub replies : ReplyExamples
-unfolding decimal_within spaced refused_text numbers_text split_text channel_text content_text map_text slot_text line_text who_text bits_text reason_text error_text
+unfolding decimal_within spaced any_of prime_of
 replies =
     record {
       done = refl;
+      number = refl;
       page = refl;
       clash = refl;
       alone_8 = refl;
@@ -116,7 +119,7 @@ replies =
     }
 
 pub table : TableExamples
-unfolding decimal_within channel_text direction_text head_text title_text frame_text holder_text block_text cell_text
+unfolding decimal_within
 table =
     record {
       head = refl;

@@ -8,8 +8,9 @@ use native.Mathlib.Omega.{arith}
 use lib.Dec.{ltb}
 use lib.ListN.{length, length-append}
 use borrow.Author.Tests.{ltb-true, ltb-false, le-leb}
-use Rattle.answers.proofs.Tests.{and_both, and_left, and_right}
-use Rattle.wording.specs.declared.Numeral.TheVariants.{Value}
+use Rattle.std.proofs.lemmas.List.Folds.{list_all-append}
+use Rattle.answers.proofs.Tests.{and_both}
+use Rattle.std.specs.Prelude.{Ok}
 use Rattle.wording.specs.Numbers.{is_digit, all_digits, value_from, number_of}
 use Rattle.wording.specs.Print.{decimal, decimal_within}
 use Rattle.wording.proofs.Digits.{some_digits, number_value, is_value, one_digit, more_digits}
@@ -20,16 +21,13 @@ value_append [] ys m = refl
 value_append (x ∷ xs) ys m = value_append xs ys (10 * m + (x - 48))
 
 digits_append : (xs ys : List ℕ) → all_digits xs ≡ true → all_digits ys ≡ true → all_digits (xs ++ ys) ≡ true
-unfolding all_digits
-digits_append [] ys h k = k
-digits_append (x ∷ xs) ys h k = and_both (and_left (is_digit x) (all_digits xs) h) (digits_append xs ys (and_right (is_digit x) (all_digits xs) h) k)
+digits_append xs ys h k = list_all-append is_digit xs ys ∙ and_both h k
 
 one_value : (m d : ℕ) → value_from m ((48 + d) ∷ []) ≡ 10 * m + d
 unfolding value_from
 one_value m d = omega arith
 
 one_is_digit : (d : ℕ) → d < 10 → all_digits ((48 + d) ∷ []) ≡ true
-unfolding all_digits
 one_is_digit d h = and_both (and_both (le-leb 48 (48 + d) (omega arith)) (le-leb (48 + d) 57 (omega (arith, h)))) refl
 
 value_decimal : (k n : ℕ) → n < 10 ^ k → value_from 0 (decimal_within k n) ≡ n
@@ -48,7 +46,7 @@ value_decimal (suc k) n h = go (ltb n 10) refl (value_decimal k (n / 10))
         ∙ omega arith
 
 digits_decimal : (k n : ℕ) → all_digits (decimal_within k n) ≡ true
-unfolding all_digits decimal_within
+unfolding decimal_within
 digits_decimal zero n = refl
 digits_decimal (suc k) n = go (ltb n 10) refl (digits_decimal k (n / 10))
   where
@@ -67,6 +65,6 @@ some k n = go (ltb n 10) refl
         omega (arith, l)
 
 -- what `put_number` writes, `number` reads
-pub reads_back : (n : ℕ) → n < 2 ^ 64 → number_of (decimal n) ≡ Value n
+pub reads_back : (n : ℕ) → n < 2 ^ 64 → number_of (decimal n) ≡ Ok n
 reads_back n h =
     number_value (decimal n) (some_digits (decimal n) (some 19 n) ∙ digits_decimal 20 n) ∙ is_value n (value_from 0 (decimal n)) (value_decimal 20 n (omega (arith, h))) h

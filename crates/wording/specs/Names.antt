@@ -1,38 +1,42 @@
 -- Which command, and which burst, a word names. Assumes nothing.
-use Rattle.std.specs.Prelude.{ℕ, suc, cond, List, [], ◌∷◌}
+use Rattle.std.specs.Prelude.{ℕ, cond, List, [], ◌∷◌, Option, Some, None}
 use Rattle.wording.specs.Words.{ascii, same_text}
+use Rattle.wording.specs.declared.Command.{Command}
+use Rattle.wording.specs.declared.Command.TheVariants.{Split, Join, Hop, Map, Start, Open, Close, Seize, Release, Line, Who, Page, Build, Take, Table}
+use Rattle.wording.specs.declared.BurstName.{BurstName}
+use Rattle.wording.specs.declared.BurstName.TheVariants.{Normal, Synchronization, Access, FrequencyCorrection, Dummy}
 
--- the place of a word among names that are numbered from k on; 0 if it is none of them
-unfoldable pub place_among : List ℕ → ℕ → List (List ℕ) → ℕ
-place_among w k [] = 0
-place_among w k (n ∷ ns) = cond (same_text w n) k (place_among w (suc k) ns)
+-- what a word names, of names with what each stands for
+unfoldable pub named : {A : Type 0} → List ℕ → List (List ℕ × A) → Option A
+named w [] = None
+named w (n ∷ ns) = cond (same_text w n.0) (Some n.1) (named w ns)
 
 -- the commands, in the order of the format's table
-abbrev pub commands : List (List ℕ)
+abbrev pub commands : List (List ℕ × Command)
 commands =
-    ascii "split"
-    ∷ ascii "join"
-    ∷ ascii "hop"
-    ∷ ascii "map"
-    ∷ ascii "start"
-    ∷ ascii "open"
-    ∷ ascii "close"
-    ∷ ascii "seize"
-    ∷ ascii "release"
-    ∷ ascii "line"
-    ∷ ascii "who"
-    ∷ ascii "page"
-    ∷ ascii "build"
-    ∷ ascii "take"
-    ∷ ascii "table"
+    (ascii "split", Split)
+    ∷ (ascii "join", Join)
+    ∷ (ascii "hop", Hop)
+    ∷ (ascii "map", Map)
+    ∷ (ascii "start", Start)
+    ∷ (ascii "open", Open)
+    ∷ (ascii "close", Close)
+    ∷ (ascii "seize", Seize)
+    ∷ (ascii "release", Release)
+    ∷ (ascii "line", Line)
+    ∷ (ascii "who", Who)
+    ∷ (ascii "page", Page)
+    ∷ (ascii "build", Build)
+    ∷ (ascii "take", Take)
+    ∷ (ascii "table", Table)
     ∷ []
 
-unfoldable pub command_of : List ℕ → ℕ
-command_of w = place_among w 1 commands
+unfoldable pub command_of : List ℕ → Option Command
+command_of w = named w commands
 
 -- the bursts that can be built; the first three can be taken apart
-abbrev pub bursts : List (List ℕ)
-bursts = ascii "normal" ∷ ascii "sync" ∷ ascii "access" ∷ ascii "frequency" ∷ ascii "dummy" ∷ []
+abbrev pub bursts : List (List ℕ × BurstName)
+bursts = (ascii "normal", Normal) ∷ (ascii "sync", Synchronization) ∷ (ascii "access", Access) ∷ (ascii "frequency", FrequencyCorrection) ∷ (ascii "dummy", Dummy) ∷ []
 
-unfoldable pub burst_of : List ℕ → ℕ
-burst_of w = place_among w 1 bursts
+unfoldable pub burst_of : List ℕ → Option BurstName
+burst_of w = named w bursts

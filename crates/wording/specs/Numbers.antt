@@ -1,15 +1,15 @@
 -- The numbers in a line. Assumes nothing.
-use Rattle.std.specs.Prelude.{ℕ, zero, suc, ◌+◌, ◌-◌, ◌*◌, ◌^◌, min, Bool, true, false, cond, ◌&&◌, List, [], ◌∷◌, ◌++◌, ltb, leb}
-use Rattle.wording.specs.declared.Numeral.{Numeral}
-use Rattle.wording.specs.declared.Numeral.TheVariants.{Value, NotDigits, TooLarge}
+use Rattle.std.specs.Prelude.{ℕ, zero, suc, ◌+◌, ◌-◌, ◌*◌, ◌^◌, min, Bool, false, cond, ◌&&◌, List, [], ◌∷◌, ◌++◌, ltb, leb, Result, Ok, Err}
+use Rattle.std.specs.List.{list_all}
+use Rattle.wording.specs.declared.Reason.{Reason}
+use Rattle.wording.specs.declared.Reason.TheVariants.{TooFewWords, TooManyWords, NotANumber, NumberTooLarge}
 
 -- "Numbers are decimal": a character from 0 to 9
 abbrev pub is_digit : ℕ → Bool
 is_digit c = leb 48 c && leb c 57
 
-unfoldable pub all_digits : List ℕ → Bool
-all_digits [] = true
-all_digits (c ∷ w) = is_digit c && all_digits w
+abbrev pub all_digits : List ℕ → Bool
+all_digits w = list_all is_digit w
 
 -- one digit or more, and nothing else
 unfoldable pub is_number : List ℕ → Bool
@@ -22,49 +22,47 @@ value_from n [] = n
 value_from n (c ∷ w) = value_from (10 * n + (c - 48)) w
 
 -- "0 to 2^64 − 1 (a larger one is an `error`)"
-unfoldable pub within : ℕ → Numeral
-within n = cond (ltb n (2 ^ 64)) (Value n) TooLarge
+unfoldable pub within : ℕ → Result ℕ Reason
+within n = cond (ltb n (2 ^ 64)) (Ok n) (Err NumberTooLarge)
 
-unfoldable pub number_of : List ℕ → Numeral
-number_of w = cond (is_number w) (within (value_from 0 w)) NotDigits
+-- the number that a word is, or why it is none
+unfoldable pub number_of : List ℕ → Result ℕ Reason
+number_of w = cond (is_number w) (within (value_from 0 w)) (Err NotANumber)
 
--- the words that are wanted as numbers: those, and the words after them; or why they are none
-pub data Taken : Type 0 where
-  took : List ℕ → List (List ℕ) → Taken
-  wrong : ℕ → Taken
+-- what is taken with a number; where a word is none, why
+abbrev pub with_number : {A : Type 0} → Result ℕ Reason → (ℕ → Result A Reason) → Result A Reason
+with_number (Ok n) f = f n
+with_number (Err r) f = Err r
 
--- "a word that is no such number where one is wanted": "not a number" is 5, "number too large" 6
-abbrev pub with_number : Numeral → (ℕ → Taken) → Taken
-with_number (Value n) f = f n
-with_number NotDigits f = wrong 5
-with_number TooLarge f = wrong 6
-
--- k numbers after the numbers ns; "too few words" is 3
-unfoldable pub numbers_after : List ℕ → ℕ → List (List ℕ) → Taken
-numbers_after ns zero ws = took ns ws
-numbers_after ns (suc k) [] = wrong 3
+-- k numbers after the numbers ns, and the words after them; or why they are none
+unfoldable pub numbers_after : List ℕ → ℕ → List (List ℕ) → Result (List ℕ × List (List ℕ)) Reason
+numbers_after ns zero ws = Ok (ns, ws)
+numbers_after ns (suc k) [] = Err TooFewWords
 numbers_after ns (suc k) (w ∷ ws) = with_number (number_of w) (λ n. numbers_after (ns ++ (n ∷ [])) k ws)
 
-abbrev pub numbers_of : ℕ → List (List ℕ) → Taken
+abbrev pub numbers_of : ℕ → List (List ℕ) → Result (List ℕ × List (List ℕ)) Reason
 numbers_of k ws = numbers_after [] k ws
 
--- "too many words" is 4
-abbrev pub only_these : Taken → Taken
-only_these (took ns []) = took ns []
-only_these (took ns (w ∷ ws)) = wrong 4
-only_these (wrong r) = wrong r
+-- the numbers, where no word is left
+abbrev pub with_no_word : List ℕ → List (List ℕ) → Result (List ℕ) Reason
+with_no_word ns [] = Ok ns
+with_no_word ns (w ∷ ws) = Err TooManyWords
+
+abbrev pub only_these : Result (List ℕ × List (List ℕ)) Reason → Result (List ℕ) Reason
+only_these (Ok taken) = with_no_word taken.0 taken.1
+only_these (Err r) = Err r
 
 -- k numbers, and no further word
-abbrev pub only_of : ℕ → List (List ℕ) → Taken
+abbrev pub only_of : ℕ → List (List ℕ) → Result (List ℕ) Reason
 only_of k ws = only_these (numbers_of k ws)
 
 -- all words as numbers, each as 16 bits hold it, after the numbers ns, with room for so many more
-unfoldable pub list_after : List ℕ → ℕ → List (List ℕ) → Taken
-list_after ns room [] = took ns []
-list_after ns zero (w ∷ ws) = wrong 4
+unfoldable pub list_after : List ℕ → ℕ → List (List ℕ) → Result (List ℕ) Reason
+list_after ns room [] = Ok ns
+list_after ns zero (w ∷ ws) = Err TooManyWords
 list_after ns (suc room) (w ∷ ws) = with_number (number_of w) (λ n. list_after (ns ++ (min n 65535 ∷ [])) room ws)
 
-abbrev pub list_of : ℕ → List (List ℕ) → Taken
+abbrev pub list_of : ℕ → List (List ℕ) → Result (List ℕ) Reason
 list_of room ws = list_after [] room ws
 
 -- "any other number too large for the parameter that it goes to is passed as that parameter's largest value": a parameter has 32 bits

@@ -26,7 +26,11 @@ spaced (n ∷ ns) = 32 ∷ decimal n ++ spaced ns
 abbrev pub bit_character : ℕ → ℕ
 bit_character bit = cond (eqb bit 0) 48 49
 
--- after the bytes before `at` a text was written, which ends at `end`; what has no room is left out
+-- a buffer's bytes after a text was written behind them, with room for so many in all; what has no room is left out
+unfoldable pub written : ℕ → List ℕ → List ℕ → List ℕ
+written room before text = before ++ take (room - length before) text
+
+-- the same of a list with a place in it: after the bytes before `at` a text was written, which ends at `end`
 pub record Appended (before : List ℕ) (at : ℕ) (after : List ℕ) (end : ℕ) (text : List ℕ) : Type 0 where
   pub same_length : length after ≡ length before
   pub inside : end ≤ length after

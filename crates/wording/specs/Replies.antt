@@ -1,91 +1,125 @@
 -- What each answer reads like, in the words of the format's table. Assumes nothing.
-use Rattle.std.specs.Prelude.{ℕ, Bool, cond, ◌||◌, List, [], ◌∷◌, ◌++◌, map, eqb, get_or}
+use Rattle.std.specs.Prelude.{ℕ, Some, None, Result, Ok, Err, List, [], ◌∷◌, ◌++◌, map}
+use Rattle.std.specs.Prelude.{Option as MayBe}
+use Rattle.std.proofs.Math.Option.{Option, none, some}
+use Rattle.answers.specs.declared.Refusal.{Refusal}
+use Rattle.answers.specs.Refusals.{refusal_of}
+use Rattle.clock.specs.declared.Frame.{Frame}
+use Rattle.clock.specs.Clock.{prime_of}
+use Rattle.groups.specs.declared.PagingBlock.{PagingBlock}
+use Rattle.maps.specs.declared.Blocks.{Blocks}
+use Rattle.maps.specs.declared.Blocks.TheVariants.{One, Two}
+use Rattle.maps.specs.declared.Content.{Content}
+use Rattle.maps.specs.declared.Content.TheVariants.{Idle, Channel}
+use Rattle.maps.specs.declared.Found.{Found}
+use Rattle.maps.specs.declared.Kind.{Kind}
+use Rattle.maps.specs.declared.Kind.TheVariants.{Tch, Sacch, Sdcch, Fcch, Sch, Bcch, Ccch, Rach}
+use Rattle.maps.specs.declared.OnAir.{OnAir}
+use Rattle.maps.specs.declared.Place.{Place}
 use Rattle.wording.specs.Words.{ascii}
 use Rattle.wording.specs.Print.{decimal, spaced, bit_character}
-use Rattle.c_answers.specs.declared.TdmaAnswer.{TdmaAnswer}
-use Rattle.c_answers.specs.declared.TdmaSplit.{TdmaSplit}
-use Rattle.c_answers.specs.declared.TdmaMap.{TdmaMap}
-use Rattle.c_answers.specs.declared.TdmaLine.{TdmaLine}
-use Rattle.c_answers.specs.declared.TdmaWho.{TdmaWho}
+use Rattle.wording.specs.declared.Reason.{Reason}
+use Rattle.wording.specs.declared.Reason.TheVariants.{UnknownCommand, UnknownBurst, TooFewWords, TooManyWords, NotANumber, NumberTooLarge, CountTooLarge, LineTooLong}
 
--- "`refused 9 LINE` and `refused 15 BIT` where document 01 gives a value with it"
-abbrev pub has_value : ℕ → Bool
-has_value refusal = eqb refusal 9 || eqb refusal 15
+-- "A refusal is `refused N`", "`refused 9 LINE` and `refused 15 BIT` where document 01 gives a value with it"
+abbrev pub refused_text : Refusal → List ℕ
+refused_text refusal = ascii "refused" ++ spaced ((refusal_of refusal).number ∷ (refusal_of refusal).values) ++ ascii "\n"
 
--- "A refusal is `refused N`"
-unfoldable pub refused_text : ℕ → ℕ → List ℕ
-refused_text refusal value = cond (has_value refusal) (ascii "refused" ++ spaced (refusal ∷ value ∷ []) ++ ascii "\n") (ascii "refused" ++ spaced (refusal ∷ []) ++ ascii "\n")
+-- "ok" and what the text says of what an accepted call gives, or the refusal
+abbrev pub answered : {A : Type 0} → Result A Refusal → (A → List ℕ) → List ℕ
+answered (Ok a) text = ascii "ok" ++ text a ++ ascii "\n"
+answered (Err refusal) text = refused_text refusal
 
--- the answer where the refusal is 0, or the refusal
-abbrev pub answered : ℕ → ℕ → List ℕ → List ℕ
-answered refusal value t = cond (eqb refusal 0) t (refused_text refusal value)
+-- "ok"
+abbrev pub done_text : Result Unit Refusal → List ℕ
+done_text r = answered r (λ u. [])
 
--- "ok", "ok FN", "ok ARFCN", "ok TN BLOCK FRAME"
-unfoldable pub numbers_text : ℕ → ℕ → List ℕ → List ℕ
-numbers_text refusal value ns = answered refusal value (ascii "ok" ++ spaced ns ++ ascii "\n")
+-- "ok FN", "ok ARFCN"
+abbrev pub number_text : Result ℕ Refusal → List ℕ
+number_text r = answered r (λ n. spaced (n ∷ []))
+
+-- "ok TN BLOCK FRAME"
+abbrev pub paging_text : PagingBlock → List ℕ
+paging_text b = spaced (b.tn ∷ b.block ∷ b.frame ∷ [])
+
+abbrev pub page_text : Result PagingBlock Refusal → List ℕ
+page_text r = answered r paging_text
+
+-- T3' where it is given
+abbrev pub prime_text : Option ℕ → List ℕ
+prime_text (some k) = spaced (k ∷ [])
+prime_text none = ascii " -"
+
+abbrev pub parts_text : Frame → List ℕ
+parts_text f = spaced (f.t1 ∷ f.t2 ∷ f.t3 ∷ []) ++ prime_text (prime_of f.t3)
 
 -- "ok T1 T2 T3 T3', with `-` where T3' isn't given"
-unfoldable pub split_text : TdmaSplit → List ℕ
-split_text a =
-    answered a.refusal 0
-    (cond (eqb a.given 1)
-    (ascii "ok" ++ spaced (a.t1 ∷ a.t2 ∷ a.t3 ∷ []) ++ spaced (a.prime ∷ []) ++ ascii "\n")
-    (ascii "ok" ++ spaced (a.t1 ∷ a.t2 ∷ a.t3 ∷ []) ++ ascii " -\n"))
+abbrev pub split_text : Result Frame Refusal → List ℕ
+split_text r = answered r parts_text
 
--- "CHANNEL is `TCH`, `SACCH`, `SDCCH`, `FCCH`, `SCH`, `BCCH`, `CCCH` or `RACH`", numbered from 1
-abbrev pub channels : List (List ℕ)
-channels = [] ∷ ascii "TCH" ∷ ascii "SACCH" ∷ ascii "SDCCH" ∷ ascii "FCCH" ∷ ascii "SCH" ∷ ascii "BCCH" ∷ ascii "CCCH" ∷ ascii "RACH" ∷ []
+-- "CHANNEL is `TCH`, `SACCH`, `SDCCH`, `FCCH`, `SCH`, `BCCH`, `CCCH` or `RACH`"
+abbrev pub channel_text : Kind → List ℕ
+channel_text Tch = ascii "TCH"
+channel_text Sacch = ascii "SACCH"
+channel_text Sdcch = ascii "SDCCH"
+channel_text Fcch = ascii "FCCH"
+channel_text Sch = ascii "SCH"
+channel_text Bcch = ascii "BCCH"
+channel_text Ccch = ascii "CCCH"
+channel_text Rach = ascii "RACH"
 
-unfoldable pub channel_text : ℕ → List ℕ
-channel_text n = get_or channels n []
+abbrev pub place_text : Place → List ℕ
+place_text p = spaced (p.block ∷ p.place ∷ [])
 
--- "idle, or CHANNEL" and numbers, "with a second BLOCK PLACE where a burst belongs to two blocks"
-unfoldable pub content_text : ℕ → List ℕ → ℕ → List ℕ → List ℕ
-content_text channel first blocks second =
-    cond (eqb channel 0) (ascii " idle\n")
-    (cond (eqb blocks 2)
-    (ascii " " ++ channel_text channel ++ spaced first ++ spaced second ++ ascii "\n")
-    (ascii " " ++ channel_text channel ++ spaced first ++ ascii "\n"))
+-- "with a second BLOCK PLACE where a burst belongs to two blocks"
+abbrev pub blocks_text : Blocks → List ℕ
+blocks_text (One p) = place_text p
+blocks_text (Two p q) = place_text p ++ place_text q
+
+-- "OWNER", which `line` and `who` tell
+abbrev pub owner_text : MayBe ℕ → List ℕ
+owner_text (Some owner) = spaced (owner ∷ [])
+owner_text None = []
+
+-- "idle, or CHANNEL", its subchannel, the owner where it is told, and the blocks
+abbrev pub content_text : Content → MayBe ℕ → List ℕ
+content_text Idle owner = ascii " idle"
+content_text (Channel b) owner = ascii " " ++ channel_text b.kind ++ spaced (b.subchannel ∷ []) ++ owner_text owner ++ blocks_text b.blocks
 
 -- "ok idle, or ok CHANNEL S BLOCK PLACE"
-unfoldable pub map_text : TdmaMap → List ℕ
-map_text a =
-    answered a.refusal 0
-    (ascii "ok" ++ content_text a.channel (a.subchannel ∷ a.block ∷ a.place ∷ []) a.blocks (a.block2 ∷ a.place2 ∷ []))
+abbrev pub map_text : Result Content Refusal → List ℕ
+map_text r = answered r (λ c. content_text c None)
 
 -- "ARFCN idle, or ARFCN CHANNEL S OWNER BLOCK PLACE [BLOCK PLACE]"
-unfoldable pub slot_text : TdmaLine → List ℕ
-slot_text a =
-    spaced (a.arfcn ∷ []) ++ content_text a.channel (a.subchannel ∷ a.owner ∷ a.block ∷ a.place ∷ []) a.blocks (a.block2 ∷ a.place2 ∷ [])
+abbrev pub slot_text : OnAir → List ℕ
+slot_text a = spaced (a.arfcn ∷ []) ++ content_text a.content (Some a.owner)
 
-unfoldable pub line_text : TdmaLine → List ℕ
-line_text a = answered a.refusal 0 (ascii "ok" ++ slot_text a)
+abbrev pub line_text : Result OnAir Refusal → List ℕ
+line_text r = answered r slot_text
 
 -- "ok nobody, or ok LINE and then as `line` from ARFCN on"
-unfoldable pub who_text : TdmaWho → List ℕ
-who_text a = answered a.refusal 0 (cond (eqb a.found 0) (ascii "ok nobody\n") (ascii "ok" ++ spaced (a.line ∷ []) ++ slot_text a.answer))
+abbrev pub found_text : MayBe Found → List ℕ
+found_text None = ascii " nobody"
+found_text (Some f) = spaced (f.line ∷ []) ++ slot_text f.on_air
+
+abbrev pub who_text : Result (MayBe Found) Refusal → List ℕ
+who_text r = answered r found_text
 
 -- "ok BITS"
-unfoldable pub bits_text : TdmaAnswer → List ℕ → List ℕ
-bits_text a bits = answered a.refusal a.value (ascii "ok " ++ map bit_character bits ++ ascii "\n")
+abbrev pub bits_text : Result Unit Refusal → List ℕ → List ℕ
+bits_text r bits = answered r (λ u. ascii " " ++ map bit_character bits)
 
--- "a short reason in plain words", numbered from 1
-abbrev pub reasons : List (List ℕ)
-reasons =
-    []
-    ∷ ascii "unknown command"
-    ∷ ascii "unknown burst"
-    ∷ ascii "too few words"
-    ∷ ascii "too many words"
-    ∷ ascii "not a number"
-    ∷ ascii "number too large"
-    ∷ ascii "count too large"
-    ∷ ascii "line too long"
-    ∷ []
-
-unfoldable pub reason_text : ℕ → List ℕ
-reason_text n = get_or reasons n []
+-- "a short reason in plain words"
+abbrev pub reason_text : Reason → List ℕ
+reason_text UnknownCommand = ascii "unknown command"
+reason_text UnknownBurst = ascii "unknown burst"
+reason_text TooFewWords = ascii "too few words"
+reason_text TooManyWords = ascii "too many words"
+reason_text NotANumber = ascii "not a number"
+reason_text NumberTooLarge = ascii "number too large"
+reason_text CountTooLarge = ascii "count too large"
+reason_text LineTooLong = ascii "line too long"
 
 -- "`error LINENUMBER REASON`"
-unfoldable pub error_text : ℕ → ℕ → List ℕ
+abbrev pub error_text : ℕ → Reason → List ℕ
 error_text number reason = ascii "error " ++ decimal number ++ ascii " " ++ reason_text reason ++ ascii "\n"

@@ -1,42 +1,55 @@
 -- The parts of a timetable: "aligned text with a head line". Assumes nothing.
-use Rattle.std.specs.Prelude.{ℕ, cond, List, ◌++◌, eqb, ltb}
+use Rattle.std.specs.Prelude.{ℕ, cond, List, ◌++◌, eqb}
+use Rattle.clock.specs.declared.Frame.{Frame}
+use Rattle.maps.specs.Channels.{is_common}
+use Rattle.maps.specs.declared.Blocks.{Blocks}
+use Rattle.maps.specs.declared.Blocks.TheVariants.{One, Two}
+use Rattle.maps.specs.declared.Burst.{Burst}
+use Rattle.maps.specs.declared.Content.{Content}
+use Rattle.maps.specs.declared.Content.TheVariants.{Idle, Channel}
+use Rattle.maps.specs.declared.OnAir.{OnAir}
+use Rattle.maps.specs.declared.Place.{Place}
 use Rattle.wording.specs.Words.{ascii}
 use Rattle.wording.specs.Print.{decimal, right, left}
-use Rattle.c_answers.specs.declared.TdmaLine.{TdmaLine}
 use Rattle.wording.specs.Replies.{channel_text}
 
-unfoldable pub direction_text : ℕ → List ℕ
+abbrev pub direction_text : ℕ → List ℕ
 direction_text direction = cond (eqb direction 0) (ascii " downlink, ") (ascii " uplink, ")
 
 -- what is shown; the numbers of the open lines follow
-unfoldable pub head_text : ℕ → ℕ → ℕ → ℕ → List ℕ
+abbrev pub head_text : ℕ → ℕ → ℕ → ℕ → List ℕ
 head_text tn direction count frame = ascii "timeslot " ++ decimal tn ++ direction_text direction ++ decimal count ++ ascii " frames from " ++ decimal frame ++ ascii ", open lines:"
 
 -- the title of a line's column
-unfoldable pub title_text : ℕ → List ℕ
+abbrev pub title_text : ℕ → List ℕ
 title_text line = ascii " line " ++ left 24 (decimal line) ++ ascii " |"
 
--- a frame, also as T1, T2, T3
-unfoldable pub frame_text : ℕ → ℕ → ℕ → ℕ → List ℕ
-frame_text number t1 t2 t3 = right 7 (decimal number) ++ right 5 (decimal t1) ++ right 3 (decimal t2) ++ right 3 (decimal t3) ++ ascii " |"
+-- a frame by its number, also as T1, T2, T3
+abbrev pub frame_text : ℕ → Frame → List ℕ
+frame_text number f = right 7 (decimal number) ++ right 5 (decimal f.t1) ++ right 3 (decimal f.t2) ++ right 3 (decimal f.t3) ++ ascii " |"
 
--- the subchannel and its owner: a common part has neither, and a free subchannel no owner
-unfoldable pub holder_text : ℕ → ℕ → ℕ → List ℕ
-holder_text channel subchannel owner =
-    cond (ltb 3 channel) (ascii "-     -")
-    (cond (eqb owner 0) (decimal subchannel ++ ascii "  free") (decimal subchannel ++ ascii " " ++ right 5 (decimal owner)))
+-- the owner of a subchannel; a free one has none
+abbrev pub owner_text : ℕ → List ℕ
+owner_text owner = cond (eqb owner 0) (ascii "  free") (ascii " " ++ right 5 (decimal owner))
+
+-- the subchannel and its owner; a common part has neither
+abbrev pub holder_text : Burst → ℕ → List ℕ
+holder_text b owner = cond (is_common b.kind) (ascii "-     -") (decimal b.subchannel ++ owner_text owner)
 
 -- a block and a place of it
-unfoldable pub block_text : ℕ → ℕ → List ℕ
-block_text block place = right 3 (decimal block) ++ ascii "." ++ decimal place
+abbrev pub block_text : Place → List ℕ
+block_text p = right 3 (decimal p.block) ++ ascii "." ++ decimal p.place
 
--- a channel on its ARFCN: its name, the subchannel and its owner, block and place
-abbrev pub shown_text : TdmaLine → List ℕ
-shown_text a =
-    right 6 (decimal a.arfcn) ++ ascii " " ++ left 5 (channel_text a.channel) ++ ascii " " ++ holder_text a.channel a.subchannel a.owner ++ block_text a.block a.place
+-- the second block and place where there are two, up to the cell's edge
+abbrev pub columns_text : Blocks → List ℕ
+columns_text (One p) = block_text p ++ ascii "      |"
+columns_text (Two p q) = block_text p ++ block_text q ++ ascii " |"
 
--- what a line has in a frame: its ARFCN, and idle or the channel, with the second block and place where there are two
-unfoldable pub cell_text : TdmaLine → List ℕ
-cell_text a =
-    cond (eqb a.channel 0) (right 6 (decimal a.arfcn) ++ ascii " " ++ ascii "idle                    |")
-    (cond (eqb a.blocks 2) (shown_text a ++ block_text a.block2 a.place2 ++ ascii " |") (shown_text a ++ ascii "      |"))
+-- idle, or a channel: its name, the subchannel and its owner, block and place
+abbrev pub shown_text : Content → ℕ → List ℕ
+shown_text Idle owner = ascii "idle                    |"
+shown_text (Channel b) owner = left 5 (channel_text b.kind) ++ ascii " " ++ holder_text b owner ++ columns_text b.blocks
+
+-- what a line has in a frame: its ARFCN, and idle or the channel
+abbrev pub cell_text : OnAir → List ℕ
+cell_text a = right 6 (decimal a.arfcn) ++ ascii " " ++ shown_text a.content a.owner

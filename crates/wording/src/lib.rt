@@ -1,12 +1,45 @@
 // The wording of the program `schedule`: a line's words and the numbers among them, and what each answer reads like. Definitions in specs/, theorems in proofs/; no functions.
 #![tactic(auto)]
 
-// The number that a word is.
-#[derive(Clone, Copy)]
-pub enum Numeral {
-    Value(u64),
-    // Some character is no digit, or there is none.
-    NotDigits,
-    // Above 2^64 - 1.
-    TooLarge,
+// Why a line is no command.
+#[derive(Clone, Copy, PartialEq, Eq)]
+pub enum Reason {
+    UnknownCommand,
+    UnknownBurst,
+    TooFewWords,
+    TooManyWords,
+    NotANumber,
+    NumberTooLarge,
+    CountTooLarge,
+    LineTooLong,
+}
+
+// What a line's first word names.
+#[derive(Clone, Copy, PartialEq, Eq)]
+pub enum Command {
+    Split,
+    Join,
+    Hop,
+    Map,
+    Start,
+    Open,
+    Close,
+    Seize,
+    Release,
+    Line,
+    Who,
+    Page,
+    Build,
+    Take,
+    Table,
+}
+
+// What the second word of `build` and `take` names.
+#[derive(Clone, Copy, PartialEq, Eq)]
+pub enum BurstName {
+    Normal,
+    Synchronization,
+    Access,
+    FrequencyCorrection,
+    Dummy,
 }

@@ -1,40 +1,6 @@
--- `command` meets its contract: the names before are missed, and this one is hit, as `place_among` computes. Assumes nothing.
-use borrow.Author.Rules.{rules}
-use Rattle.wording.specs.Names.{place_among, command_of}
+use Rattle.wording.specs.Names.{command_of}
 use Rattle.commands.proofs.command.Goals as goal
 
-pub returns-then-same : goal.returns-then-same
-unfolding command_of place_among
-returns-then-same c = search rules
-
-pub returns-then-same-2 : goal.returns-then-same-2
-unfolding command_of place_among
-returns-then-same-2 c = search rules
-
-pub returns-then-same-3 : goal.returns-then-same-3
-unfolding command_of place_among
-returns-then-same-3 c = search rules
-
-pub returns-then-same-4 : goal.returns-then-same-4
-unfolding command_of place_among
-returns-then-same-4 c = search rules
-
-pub returns-then-same-5 : goal.returns-then-same-5
-unfolding command_of place_among
-returns-then-same-5 c = search rules
-
-pub returns-then-same-6 : goal.returns-then-same-6
-unfolding command_of place_among
-returns-then-same-6 c = search rules
-
-pub returns-then-same-7 : goal.returns-then-same-7
-unfolding command_of place_among
-returns-then-same-7 c = search rules
-
-pub returns-then-same-8 : goal.returns-then-same-8
-unfolding command_of place_among
-returns-then-same-8 c = search rules
-
 pub returns : goal.returns
-unfolding command_of place_among
-returns c = search rules
+unfolding command_of
+returns c = c.named.ensures

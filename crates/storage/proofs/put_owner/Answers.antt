@@ -1,9 +1,10 @@
--- `put_owner` meets its contract: past the last line and the last subchannel nothing is written. Assumes nothing.
-use Rattle.storage.proofs.Storage.{no_such_line, no_such_owner}
+-- `put_owner` meets its contract: one word of line n changes; past the last line and the last subchannel nothing is written. Assumes nothing.
+use borrow.Author.Rules.{rules}
+use Rattle.storage.proofs.Storage.{no_such_owner, other_owner}
 use Rattle.storage.proofs.put_owner.Goals as goal
 
 pub returns-then-n-gt63 : goal.returns-then-n-gt63
-returns-then-n-gt63 c = let x = c.args in no_such_line x.cell.now x.n _ c.if-n-gt63.true
+returns-then-n-gt63 c = let x = c.args in no_such_owner x.cell.now x.n x.s x.owner c.then-n-gt63.either
 
-pub returns-then-s-gt7 : goal.returns-then-s-gt7
-returns-then-s-gt7 c = let x = c.args in no_such_owner x.cell.now x.n x.s x.owner c.if-s-gt7.true
+pub returns : goal.returns
+returns c = let x = c.args in other_owner x.cell.now x.n x.s x.owner (search rules) (search rules) (search rules)

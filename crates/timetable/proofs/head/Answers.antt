@@ -1,9 +1,10 @@
 -- `head` meets its contract: its parts in a row. Assumes nothing.
-use Rattle.wording.proofs.Written.{and_then}
-use Rattle.wording.specs.Table.{head_text}
+use Rattle.replies.proofs.Texts.{and_then}
 use Rattle.timetable.proofs.head.Goals as goal
 
 pub returns : goal.returns
-unfolding head_text
-returns c =
-    (and_then (and_then (and_then (and_then (and_then (and_then c.put-end.ensures c.put_number-end.ensures) c.direction_name-end.ensures) c.put_number-end-2.ensures) c.put-end-2.ensures) c.put_number-end-3.ensures) c.put.ensures)
+returns g c =
+    let tn = and_then _ _ _ _ c.put.ensures c.put_number.ensures in
+    let direction = and_then _ _ _ _ tn c.put-2.ensures in
+    let frames = and_then _ _ _ _ (and_then _ _ _ _ direction c.put_number-2.ensures) c.put-3.ensures in
+    cc (and_then _ _ _ _ (and_then _ _ _ _ frames c.put_number-3.ensures) c.put-4.ensures)

@@ -2,18 +2,18 @@
 use mathlib.Core.Path.{sym, ◌∙◌}
 use native.Mathlib.Omega.{arith}
 use borrow.Author.Count.{below_none, below_more}
-use Rattle.answers.proofs.Search.{least_at, least_none}
+use Rattle.answers.proofs.Search.{first_is, first_none}
 use borrow.Author.Rules.{rules}
 use Rattle.onair.proofs.seek.first_on.Goals as goal
 
 pub loop-n-init : goal.loop-n-init
-loop-n-init c = (search rules, below_none _)
+loop-n-init c = below_none _
 
 pub returns-then-is_on : goal.returns-then-is_on
-returns-then-is_on c = sym (least_at _ 64 64 _ (search rules) (sym c.is_on.ensures ∙ c.if-is_on.true) c.loop-n.invariant.1)
+returns-then-is_on c = sym (first_is _ 64 _ (search rules) (sym c.is_on.ensures ∙ c.if-is_on.true) c.loop-n.invariant)
 
 pub loop-n-preserved : goal.loop-n-preserved
-loop-n-preserved c = (search rules, below_more _ _ c.loop-n.invariant.1 (sym c.is_on.ensures ∙ c.if-is_on.false))
+loop-n-preserved c = below_more _ _ c.loop-n.invariant (sym c.is_on.ensures ∙ c.if-is_on.false)
 
 pub returns : goal.returns
-returns c = sym (least_none _ 64 64 (λ k h. c.loop-n.invariant.1 k (omega arith)))
+returns c = sym (first_none _ 64 (λ k h. c.loop-n.invariant k (omega arith)))

@@ -5,4 +5,4 @@ use Rattle.placing.proofs.clash.clashes.Goals as goal
 
 pub returns : goal.returns
 unfolding clash
-returns c = rw (c.overlap.ensures, c.mask_at-line_mask.ensures, c.hsn_at.ensures, c.maio_at.ensures, c.combination_at-closed.ensures, c.tn_at.ensures) refl
+returns c = rw (c.overlap.ensures, c.values_at-line.ensures) refl

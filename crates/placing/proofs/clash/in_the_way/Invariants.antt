@@ -6,7 +6,7 @@ use Rattle.rules.specs.Calls.{in_the_way}
 use Rattle.placing.proofs.clash.in_the_way.Given as goal
 
 abbrev pub invariant-loop-n : goal.invariant-loop-n
-invariant-loop-n l = (l.n ≤ 64) × ((k : ℕ) → k < l.n → in_the_way (cell_of l.cell) (record { tn = l.tn; mask = l.mask; hsn = l.hsn; maio = l.maio; combination = 0; tsc = 0 }) k ≡ false)
+invariant-loop-n l = (l.n ≤ 64) × ((k : ℕ) → k < l.n → in_the_way (cell_of l.cell) l.values k ≡ false)
 
 abbrev pub decreases-loop-n : goal.decreases-loop-n
 decreases-loop-n l = 64 - l.n

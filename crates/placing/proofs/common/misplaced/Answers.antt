@@ -1,14 +1,17 @@
 -- `common::misplaced` meets its contract: its tests are the conditions, none of which holds of another combination. Assumes nothing.
-use Prim.Native.Nat.{ℕ}
-use mathlib.Core.Path.{◌≡◌, refl, sym, ap, ◌∙◌}
+use Prim.Native.Nat.{◌-◌}
+use borrow.Author.Rules.{rules}
+use mathlib.Core.Path.{◌≡◌, refl, sym, ◌∙◌}
 use mathlib.Core.Bool.{Bool, true, false, ◌||◌}
 use lib.Dec.{eqb}
 use Rattle.answers.specs.Outcome.{any_of}
 use Rattle.answers.proofs.Decide.{any_combined}
 use Rattle.answers.proofs.Tests.{not_both}
-use Rattle.rules.specs.State.{Cell, Values}
+use Rattle.rules.specs.State.{Cell}
+use Rattle.rules.specs.declared.Values.{Values}
 use Rattle.storage.specs.Words.{cell_of}
-use Rattle.rules.specs.Calls.{any_line, stands_in, is_common_combination, misplaced}
+use Rattle.rules.specs.Calls.{stands_in, has_combination, is_common_line, is_common_combination, misplaced}
+use Rattle.placing.proofs.Found.{any_found}
 use Rattle.placing.proofs.common.misplaced.Goals as goal
 
 none_of : (a b d : Bool) → (a || b || d) ≡ false → (a ≡ false) × (b ≡ false) × (d ≡ false)
@@ -27,12 +30,12 @@ another c v h =
 pub returns-then-not-common : goal.returns-then-not-common
 returns-then-not-common c =
     let x = c.args in
-    let v : Values = record { tn = x.tn; mask = x.mask; hsn = 0; maio = 0; combination = x.combination; tsc = x.tsc } in
-    another (cell_of x.cell.now) v (sym c.is_common_combination-common.ensures ∙ c.if-not-common.true)
+    another (cell_of x.cell.now) x.values (sym c.is_common_combination-common.ensures ∙ c.if-not-common.true)
 
 pub returns : goal.returns
 returns c =
     let x = c.args in
-    let v : Values = record { tn = x.tn; mask = x.mask; hsn = 0; maio = 0; combination = x.combination; tsc = x.tsc } in
-    let six = c.any_line-3.ensures ∙ ap (λ (t : ℕ). any_line (cell_of x.cell.now) (stands_in 6 t)) c.lower.ensures in
-    rw (c.is_common_combination-common.ensures, c.c0_alone.ensures, c.bcc.ensures, c.any_line.ensures, c.ag.ensures, c.any_line-2.ensures, six) (any_combined (misplaced (cell_of x.cell.now) v))
+    let common = any_found is_common_line _ c.any_line.ensures (λ l b k. search rules) in
+    let four = any_found (has_combination 4) _ c.any_line-2.ensures (λ l b k. search rules) in
+    let six = any_found (stands_in 6 (x.values.tn - 2)) _ c.any_line-3.ensures (λ l b k. search rules) in
+    rw (c.is_common_combination-common.ensures, c.c0_alone.ensures, c.parameters.ensures, common, c.parameters-2.ensures, four, six) (any_combined (misplaced (cell_of x.cell.now) x.values))

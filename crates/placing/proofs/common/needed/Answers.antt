@@ -1,20 +1,16 @@
--- `common::needed` meets its contract: the search is for a 6 two timeslots higher. Assumes nothing.
-use Prim.Native.Nat.{ℕ, ◌+◌}
-use mathlib.Core.Path.{sym, ap, ◌∙◌}
-use mathlib.Core.Bool.{◌||◌}
-use lib.Dec.{eqb}
+-- `common::needed` meets its contract: a 6 two timeslots higher is looked for. Assumes nothing.
+use Prim.Native.Nat.{◌+◌}
+use borrow.Author.Rules.{rules}
+use Rattle.rules.specs.Calls.{stands_in}
+use Rattle.rules.specs.State.{line_at}
+use Rattle.rules.proofs.Lines.{decides}
 use Rattle.storage.specs.Words.{cell_of}
-use Rattle.rules.specs.Calls.{any_line, stands_in}
-use Rattle.rules.proofs.Lines.{fails, decides}
+use Rattle.placing.proofs.Found.{any_found}
 use Rattle.placing.proofs.common.needed.Goals as goal
 
-pub returns-then-not-combination : goal.returns-then-not-combination
-returns-then-not-combination c =
-    let e = ap (λ (k : ℕ). eqb k 4 || eqb k 6) (sym c.combination_at-combination.ensures) in
-    fails _ _ (e ∙ c.if-not-combination.true)
-
-pub returns : goal.returns
-returns c =
+pub returns-then-line : goal.returns-then-line
+returns-then-line c =
     let x = c.args in
-    let e = ap (λ (k : ℕ). eqb k 4 || eqb k 6) (sym c.combination_at-combination.ensures) in
-    decides _ _ _ (e ∙ c.if-not-combination.false) (c.any_line.ensures ∙ ap (λ (t : ℕ). any_line (cell_of x.cell.now) (stands_in 6 (t + 2))) (c.wide-higher.ensures ∙ c.tn_at.ensures))
+    let l = line_at (cell_of x.cell.now) x.n in
+    let listed = rw c.values_at-line.ensures at c.if-line.true in
+    decides _ _ _ listed (any_found (stands_in 6 (l.tn + 2)) _ c.any_line.ensures (λ other b k. search rules))

@@ -1,14 +1,10 @@
-use Prim.Native.Nat.{◌-◌, ◌≤◌}
-use mathlib.Core.Path.{◌≡◌}
-use mathlib.Core.List.{[]}
-use lib.ListN.{length, take, drop}
+use Rattle.std.proofs.Common.{◌≡◌, ◌-◌, length}
 use Rattle.wording.specs.Words.{words_of}
-use Rattle.wording.specs.Numbers.{list_after}
+use Rattle.wording.specs.Numbers.{list_after, list_of}
 use Rattle.text.proofs.numbers.list.Given as goal
 
-abbrev pub invariant-loop-count : goal.invariant-loop-count
-invariant-loop-count l =
-    (length l.out ≡ length l.initial.out) × (l.count ≤ length l.initial.out) × (list_after (take l.count l.out) (length l.initial.out - l.count) (words_of (drop l.end l.line)) ≡ list_after [] (length l.initial.out) (words_of (drop l.from l.line)))
+abbrev pub invariant-loop-word : goal.invariant-loop-word
+invariant-loop-word g l = list_after l.out.items (g.row.N - length l.out.items) (words_of l.rest) ≡ list_of g.row.N (words_of l.fn.line)
 
-abbrev pub decreases-loop-count : goal.decreases-loop-count
-decreases-loop-count l = length l.initial.out - l.count
+abbrev pub decreases-loop-word : goal.decreases-loop-word
+decreases-loop-word g l = length l.rest

@@ -1,22 +1,16 @@
--- `numbers::value` meets its contract: the value is that of the digits from i on, after n. Assumes nothing.
-use Prim.Native.Nat.{ℕ, ◌+◌, ◌*◌}
-use mathlib.Core.Path.{sym, ap, ◌∙◌}
-use native.Mathlib.Omega.{arith}
-use lib.ListN.{drop}
-use borrow.Author.Rules.{rules}
-use Rattle.wording.specs.Numbers.{value_from}
-use Rattle.text.proofs.Digits.{value_more, value_end, is_too_large}
-use Rattle.wording.proofs.Digits.{is_value}
+use Rattle.std.proofs.Common.{arith, rules}
+use Rattle.std.proofs.lemmas.Grind.{common_steps}
+use Rattle.text.proofs.Digits.{value_overflows, value_kept, value_done}
 use Rattle.text.proofs.numbers.value.Goals as goal
 
-pub returns-then-n-d : goal.returns-then-n-d
-returns-then-n-d c =
-    sym (is_too_large _ _ _ (sym c.loop-i.invariant.1 ∙ value_more c.args.word.now c.loop-i.i c.loop-i.n (search rules)) (omega (arith, c.worth-d.ensures, c.if-n-d.true)))
+pub returns-in_err-tens : goal.returns-in_err-tens
+returns-in_err-tens c = grind (arith, common_steps, value_overflows c.args.word.now c.loop-c.c-index c.loop-c.n c.loop-c.invariant.1)
 
-pub loop-i-preserved : goal.loop-i-preserved
-loop-i-preserved c =
-    (search rules, ap (λ (d : ℕ). value_from (10 * c.loop-i.n + d) (drop (c.loop-i.i + 1) c.args.word.now)) c.worth-d.ensures ∙ (sym (value_more c.args.word.now c.loop-i.i c.loop-i.n (search rules)) ∙ c.loop-i.invariant.1))
+pub returns-in_err-n : goal.returns-in_err-n
+returns-in_err-n c = grind (arith, common_steps, value_overflows c.args.word.now c.loop-c.c-index c.loop-c.n c.loop-c.invariant.1)
+
+pub loop-c-preserved : goal.loop-c-preserved
+loop-c-preserved c = (search rules, grind (arith, common_steps, value_kept c.args.word.now c.loop-c.c-index c.loop-c.n c.loop-c.invariant.1 c.in_ok-n.n))
 
 pub returns : goal.returns
-returns c =
-    sym (is_value _ _ (sym c.loop-i.invariant.1 ∙ value_end c.args.word.now c.loop-i.i c.loop-i.n (search rules)) c.loop-i.invariant.0)
+returns c = value_done c.args.word.now c.loop-c.c-index c.loop-c.n c.loop-c.invariant.1 (search rules) c.loop-c.invariant.0

@@ -1,10 +1,8 @@
--- `print::put_right` meets its contract: spaces, and then the digits. Assumes nothing.
-use borrow.Author.Rules.{rules}
-use Rattle.wording.proofs.Written.{and_then, by_text}
-use Rattle.text.proofs.Decimal.{decimal_in, on_right}
+use Rattle.std.proofs.Common.{arith}
+use Rattle.std.proofs.lemmas.Grind.{common_steps}
+use Rattle.text.proofs.Decimal.{std_decimal-decimal}
+use Rattle.wording.proofs.Written.{written-written}
 use Rattle.text.proofs.print.put_right.Goals as goal
 
 pub returns : goal.returns
-returns c =
-    let digits = decimal_in c.decimal-k.new.out c.decimal-k.result c.args.n (search rules) c.decimal-k.ensures.len c.decimal-k.ensures.digits in
-    by_text (on_right c.args.width c.args.n c.decimal-k.result c.lacking.result c.decimal-k.new.out digits c.decimal-k.ensures.in_bounds.1 c.lacking.ensures) (and_then c.put_spaces-start.ensures c.put.ensures)
+returns g c = grind (arith, common_steps, written-written, std_decimal-decimal)

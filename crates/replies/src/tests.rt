@@ -1,0 +1,135 @@
+// `answer` at the type that each call gives writes the sentence of that call.
+ghost use Rattle.std.specs.Prelude.{◌≡◌};
+ghost use Rattle.wording.specs.Print.{written};
+ghost use Rattle.wording.specs.Replies.{done_text, number_text, page_text, split_text, map_text, line_text, who_text, bits_text};
+
+use crate::{Bits, answer, refused};
+use answers::Refusal;
+use arrayvec::ArrayVec;
+use clock::Frame;
+use groups::PagingBlock;
+use maps::{Blocks, Burst, Content, Found, Kind, OnAir, Place};
+
+fn done(out: &mut ArrayVec<u8, 64>, reply: Result<(), Refusal>)
+    ensures { out.new.items ≡ written 64 out.old.items (done_text reply) }
+{
+    answer(out, reply);
+}
+
+fn number(out: &mut ArrayVec<u8, 64>, reply: Result<u32, Refusal>)
+    ensures { out.new.items ≡ written 64 out.old.items (number_text reply) }
+{
+    answer(out, reply);
+}
+
+fn page(out: &mut ArrayVec<u8, 64>, reply: Result<PagingBlock, Refusal>)
+    ensures { out.new.items ≡ written 64 out.old.items (page_text reply) }
+{
+    answer(out, reply);
+}
+
+fn split(out: &mut ArrayVec<u8, 64>, reply: Result<Frame, Refusal>)
+    ensures { out.new.items ≡ written 64 out.old.items (split_text reply) }
+{
+    answer(out, reply);
+}
+
+fn map(out: &mut ArrayVec<u8, 64>, reply: Result<Content, Refusal>)
+    ensures { out.new.items ≡ written 64 out.old.items (map_text reply) }
+{
+    answer(out, reply);
+}
+
+fn line(out: &mut ArrayVec<u8, 64>, reply: Result<OnAir, Refusal>)
+    ensures { out.new.items ≡ written 64 out.old.items (line_text reply) }
+{
+    answer(out, reply);
+}
+
+fn who(out: &mut ArrayVec<u8, 64>, reply: Result<Option<Found>, Refusal>)
+    ensures { out.new.items ≡ written 64 out.old.items (who_text reply) }
+{
+    answer(out, reply);
+}
+
+fn bits(out: &mut ArrayVec<u8, 64>, reply: Result<(), Refusal>, bits: &[u8])
+    ensures { out.new.items ≡ written 64 out.old.items (bits_text reply bits.now) }
+{
+    match reply {
+        Ok(()) => answer(out, Ok(Bits(bits))),
+        Err(refusal) => refused(out, refusal),
+    }
+}
+
+#[test]
+fn numbers(rt: HostRuntime) {
+    let mut out = ArrayVec::new();
+    done(&mut out, Ok(()));
+    done(&mut out, Err(Refusal::Clash { line: 0 }));
+    number(&mut out, Ok(20));
+    page(
+        &mut out,
+        Ok(PagingBlock {
+            tn: 0,
+            block: 4,
+            frame: 26,
+        }),
+    );
+    bits(&mut out, Ok(()), &[0, 1, 1]);
+    assert_eq!(rt;
+        out.as_slice(),
+        b"ok\nrefused 9 0\nok 20\nok 0 4 26\nok 011\n".as_slice()
+    );
+}
+
+#[test]
+fn frames(rt: HostRuntime) {
+    let mut out = ArrayVec::new();
+    split(&mut out, Frame::new(11));
+    split(&mut out, Frame::new(26));
+    split(&mut out, Frame::new(Frame::HYPERFRAME));
+    assert_eq!(rt;
+        out.as_slice(),
+        b"ok 0 11 11 1\nok 0 0 26 -\nrefused 3\n".as_slice()
+    );
+}
+
+// Line 2 on its ARFCN, a TCH burst of two blocks.
+fn found() -> Found {
+    let first = Place { block: 2, place: 1 };
+    let second = Place { block: 1, place: 5 };
+    let burst = Burst {
+        kind: Kind::Tch,
+        subchannel: 0,
+        blocks: Blocks::Two(first, second),
+    };
+    let on_air = OnAir {
+        arfcn: 30,
+        content: Content::Channel(burst),
+        owner: 4714,
+    };
+    Found { line: 2, on_air }
+}
+
+#[test]
+fn channels(rt: HostRuntime) {
+    let mut out = ArrayVec::new();
+    map(&mut out, Ok(found().on_air.content));
+    line(&mut out, Ok(found().on_air));
+    assert_eq!(rt;
+        out.as_slice(),
+        b"ok TCH 0 2 1 1 5\nok 30 TCH 0 4714 2 1 1 5\n".as_slice()
+    );
+}
+
+#[test]
+fn lines(rt: HostRuntime) {
+    let mut out = ArrayVec::new();
+    map(&mut out, Ok(Content::Idle));
+    who(&mut out, Ok(Some(found())));
+    who(&mut out, Ok(None));
+    assert_eq!(rt;
+        out.as_slice(),
+        b"ok idle\nok 2 30 TCH 0 4714 2 1 1 5\nok nobody\n".as_slice()
+    );
+}

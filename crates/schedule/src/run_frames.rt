@@ -1,0 +1,53 @@
+// The commands that ask nothing of the cell: split, join, hop and map.
+use crate::output::Text;
+use arrayvec::ArrayVec;
+use clock::Frame;
+use replies::answer;
+use text::numbers::{list, narrow, numbers, only};
+use wording::Reason;
+
+pub(crate) fn split(out: &mut Text, words: &[u8]) -> Result<(), Reason> {
+    let [number] = only::<1>(words)?;
+    answer(out, Frame::new(narrow(number)));
+    Ok(())
+}
+
+pub(crate) fn join(out: &mut Text, words: &[u8]) -> Result<(), Reason> {
+    let [t1, t2, t3] = only::<3>(words)?;
+    answer(out, Frame::join(narrow(t1), narrow(t2), narrow(t3)));
+    Ok(())
+}
+
+pub(crate) fn hop(
+    out: &mut Text,
+    ca: &mut ArrayVec<u16, 32768>,
+    words: &[u8],
+) -> Result<(), Reason> {
+    let ([mask, hsn, maio, number], rest) = numbers::<4>(words)?;
+    list(rest, ca)?;
+    answer(
+        out,
+        hopping::hop(
+            ca.as_slice(),
+            mask,
+            narrow(hsn),
+            narrow(maio),
+            narrow(number),
+        ),
+    );
+    Ok(())
+}
+
+pub(crate) fn map(out: &mut Text, words: &[u8]) -> Result<(), Reason> {
+    let [combination, tn, number, direction] = only::<4>(words)?;
+    answer(
+        out,
+        frame_map::map(
+            narrow(combination),
+            narrow(tn),
+            narrow(number),
+            narrow(direction),
+        ),
+    );
+    Ok(())
+}
