@@ -39,7 +39,7 @@ impl Search {
     }
 }
 
-// The mask's one that has mai ones below it, 63 if there is none, which whoever hops has ruled out: an Option would be tested once more in each hop.
+// The mask's one that has mai ones below it, 63 if there is none, which whoever hops has ruled out: an Option would be unwrapped there, and be no plainer.
 // Five folds and six halves in a row, since each has a width, a mask and counts of its own: a loop would take them from three arrays.
 pub fn position_at(mask: u64, mai: u32) -> u32
     ensures { result ≡ select_of mask mai }
