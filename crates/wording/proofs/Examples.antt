@@ -1,6 +1,5 @@
 -- specs/Examples.antt computed. Assumes nothing.
 use mathlib.Core.Path.{refl}
-use lib.Dec.{lit≤}
 use Rattle.answers.specs.Outcome.{any_of}
 use Rattle.clock.specs.Clock.{prime_of}
 use Rattle.wording.specs.Words.{until, run, in_word, joined, words_of, same_text}
@@ -65,8 +64,6 @@ print =
       bits = refl;
       fills = refl;
       cuts = refl;
-      filled = record { same_length = refl; inside = lit≤ {m = 3} {n = 3} tt; written = refl };
-      cut = record { same_length = refl; inside = lit≤ {m = 3} {n = 3} tt; written = refl };
     }
 
 pub names : NameExamples

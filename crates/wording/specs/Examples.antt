@@ -15,7 +15,7 @@ use Rattle.wording.specs.declared.Command.TheVariants.{Split, Join, Hop, Map, St
 use Rattle.wording.specs.declared.BurstName.TheVariants.{Normal, Synchronization, Access, FrequencyCorrection, Dummy}
 use Rattle.wording.specs.Words.{ascii, until, run, words_of, same_text}
 use Rattle.wording.specs.Numbers.{number_of, numbers_of, only_of, list_of, parameter, figure}
-use Rattle.wording.specs.Print.{decimal, right, left, spaced, bit_character, written, Appended}
+use Rattle.wording.specs.Print.{decimal, right, left, spaced, bit_character, written}
 use Rattle.wording.specs.Names.{command_of, burst_of}
 use Rattle.wording.specs.Replies.{done_text, number_text, page_text, split_text, map_text, line_text, who_text, bits_text, error_text}
 use Rattle.wording.specs.Table.{head_text, title_text, frame_text, cell_text}
@@ -83,9 +83,6 @@ pub record PrintExamples : Type 0 where
   -- behind one byte of three: two bytes fill the buffer, of three the last is left out
   pub fills : written 3 (ascii "a") (ascii "ok") ≡ ascii "aok"
   pub cuts : written 3 (ascii "a") (ascii "ok\n") ≡ ascii "aok"
-  -- the same of a list with a place in it
-  pub filled : Appended (ascii "abc") 1 (ascii "aok") 3 (ascii "ok")
-  pub cut : Appended (ascii "abc") 1 (ascii "aok") 3 (ascii "ok\n")
 
 -- ---- the names, in the order of the format's table
 
