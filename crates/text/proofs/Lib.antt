@@ -1,4 +1,5 @@
 pub mod Scan
 pub mod Digits
+pub mod Taken
 pub mod Append
 pub mod Decimal

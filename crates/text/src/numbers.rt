@@ -1,7 +1,7 @@
 // The numbers in a line, and why a line has none where they are wanted.
-ghost use Rattle.std.specs.Prelude.{ℕ, ◌≡◌, List, [], ◌∷◌, ◌++◌, map, take, IfOk, IfErr, Ok, Err, MatchResult};
+ghost use Rattle.std.specs.Prelude.{◌≡◌, map, take};
 ghost use Rattle.wording.specs.Words.{words_of};
-ghost use Rattle.wording.specs.Numbers.{is_number, value_from, within, number_of, numbers_of, only_of, list_of, parameter, figure};
+ghost use Rattle.wording.specs.Numbers.{is_number, value_from, within, number_of, answer_by, numbers_in, only_of, list_filled, parameter, figure};
 
 use crate::words::next_word;
 use arrayvec::ArrayVec;
@@ -38,39 +38,17 @@ pub fn number(word: &[u8]) -> Result<u64, Reason>
     value(word)
 }
 
-// The number that the next word is, and what follows it, an end of the line.
-fn next_number(line: &[u8]) -> Result<(u64, &[u8]), Reason>
-    ensures ok { IfOk result (λ found. numbers_of 1 (words_of line.now) ≡ Ok (found.0 ∷ [], words_of found.1.now)) }
-    ensures end { IfOk result (λ found. (front : List ℕ) × (front ++ found.1.now ≡ line.now)) }
-    ensures err { IfErr result (λ reason. numbers_of 1 (words_of line.now) ≡ Err reason) }
-{
-    let (word, rest) = next_word(line).ok_or(Reason::TooFewWords)?;
-    Ok((number(word)?, rest))
-}
-
-// The numbers that the next words are, as many as there are places; the result is what follows them.
-fn fill<'a, const N: usize>(line: &'a [u8], values: &mut [u64; N]) -> Result<&'a [u8], Reason>
-    ensures ok { IfOk result (λ rest. numbers_of N (words_of line.now) ≡ Ok (values.new, words_of rest.now)) }
-    ensures end { IfOk result (λ rest. (front : List ℕ) × (front ++ rest.now ≡ line.now)) }
-    ensures err { IfErr result (λ reason. numbers_of N (words_of line.now) ≡ Err reason) }
-{
-    let mut rest = line;
-    for value in values {
-        let (n, after) = next_number(rest)?;
-        *value = n;
-        rest = after;
-    }
-    Ok(rest)
-}
-
-// The numbers that the next words are, and what follows them, an end of the line.
+// The numbers that the next words are, and what follows these words.
 pub fn numbers<const N: usize>(line: &[u8]) -> Result<([u64; N], &[u8]), Reason>
-    ensures ok { IfOk result (λ taken. numbers_of N (words_of line.now) ≡ Ok (taken.0, words_of taken.1.now)) }
-    ensures end { IfOk result (λ taken. (front : List ℕ) × (front ++ taken.1.now ≡ line.now)) }
-    ensures err { IfErr result (λ reason. numbers_of N (words_of line.now) ≡ Err reason) }
+    ensures { answer_by (λ found. (found.0, found.1.now)) result ≡ numbers_in N line.now }
 {
     let mut values = [0; N];
-    let rest = fill(line, &mut values)?;
+    let mut rest = line;
+    for value in &mut values {
+        let (word, after) = next_word(rest).ok_or(Reason::TooFewWords)?;
+        *value = number(word)?;
+        rest = after;
+    }
     Ok((values, rest))
 }
 
@@ -78,8 +56,11 @@ pub fn numbers<const N: usize>(line: &[u8]) -> Result<([u64; N], &[u8]), Reason>
 pub fn only<const N: usize>(line: &[u8]) -> Result<[u64; N], Reason>
     ensures { result ≡ only_of N (words_of line.now) }
 {
-    let mut values = [0; N];
-    let rest = fill(line, &mut values)?;
+    // By a match, since `?` of an array of N beside a slice has no proof yet.
+    let (values, rest) = match numbers::<N>(line) {
+        Ok(found) => found,
+        Err(reason) => return Err(reason),
+    };
     if next_word(rest).is_some() {
         return Err(Reason::TooManyWords);
     }
@@ -93,10 +74,9 @@ pub fn narrow(n: u64) -> u32
     u32::try_from(n).unwrap_or(u32::MAX)
 }
 
-// The numbers that all the words are, each as 16 bits hold it, in place of what the list had: as many as it has room for.
+// The numbers that all the words are, each as 16 bits hold it, in place of what the list had. On an error it has those of the words before the one at fault.
 pub fn list<const N: usize>(line: &[u8], out: &mut ArrayVec<u16, N>) -> Result<(), Reason>
-    ensures ok { IfOk result (λ _. list_of N (words_of line.now) ≡ Ok out.new.items) }
-    ensures err { IfErr result (λ reason. list_of N (words_of line.now) ≡ Err reason) }
+    ensures { (result, out.new.items) ≡ list_filled N (words_of line.now) }
 {
     out.clear();
     let mut rest = line;

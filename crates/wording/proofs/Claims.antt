@@ -1,7 +1,24 @@
 -- The claims of specs/Claims.antt. Assumes nothing.
-use Rattle.wording.specs.Claims.{ReadsBack, WrittenWhole}
+use Rattle.wording.specs.Claims.{PartedWhole, FirstWord, FirstLine, NumbersOfLine, ListFilled, ReadsBack, WrittenWhole}
+use Rattle.wording.proofs.Numbers.{in_line, not_in_line, filled_whole}
 use Rattle.wording.proofs.ReadBack.{reads_back}
+use Rattle.wording.proofs.Words.{until_from, run_past, word_words, no_word_words, word_whole, word_shorter, words_end, line_until, no_line_until, line_whole, line_shorter}
 use Rattle.wording.proofs.Written.{written-written, written_whole}
+
+pub parted_whole : PartedWhole
+parted_whole = record { at_a_byte = until_from; behind_a_run = run_past }
+
+pub first_words : FirstWord
+first_words = record { word = word_words; no_word = no_word_words; whole = word_whole; shorter = word_shorter }
+
+pub first_lines : FirstLine
+first_lines = record { line = line_until; no_line = no_line_until; whole = line_whole; shorter = line_shorter }
+
+pub numbers_of_line : NumbersOfLine
+numbers_of_line = record { numbers = in_line; reason = not_in_line; an_end = words_end }
+
+pub list_filled_whole : ListFilled
+list_filled_whole = record { whole = filled_whole }
 
 pub reads_back_whole : ReadsBack
 reads_back_whole = record { number = reads_back }

@@ -2,14 +2,14 @@
 use mathlib.Core.Path.{refl}
 use Rattle.answers.specs.Outcome.{any_of}
 use Rattle.clock.specs.Clock.{prime_of}
-use Rattle.wording.specs.Words.{until, run, in_word, joined, words_of, same_text}
+use Rattle.wording.specs.Words.{until, from, past, in_word, joined, words_of, first_word, after_words, first_line, same_text}
 use Rattle.wording.specs.Numbers.{is_number, value_from, within, number_of, numbers_after, list_after}
 use Rattle.wording.specs.Print.{decimal_within, spaced, written}
 use Rattle.wording.specs.Names.{named, command_of, burst_of}
 use Rattle.wording.specs.Examples.{WordExamples, NumberExamples, PrintExamples, NameExamples, ReplyExamples, TableExamples}
 
 pub words : WordExamples
-unfolding until run in_word joined words_of same_text
+unfolding until from past in_word joined words_of first_word after_words first_line same_text
 words =
     record {
       bytes = refl;
@@ -19,6 +19,16 @@ words =
       up_to = refl;
       up_to_end = refl;
       repeated = refl;
+      only_spaces = refl;
+      behind_spaces = refl;
+      whole_word = refl;
+      no_word = refl;
+      after_none = refl;
+      after_two = refl;
+      after_four = refl;
+      line = refl;
+      empty_line = refl;
+      no_line = refl;
       same = refl;
       longer = refl;
       shorter = refl;
@@ -26,7 +36,7 @@ words =
     }
 
 pub numbers : NumberExamples
-unfolding is_number value_from within number_of numbers_after list_after
+unfolding until from in_word joined words_of first_word after_words is_number value_from within number_of numbers_after list_after
 numbers =
     record {
       largest = refl;
@@ -36,6 +46,10 @@ numbers =
       after_9 = refl;
       empty = refl;
       two = refl;
+      two_in_line = refl;
+      all_in_line = refl;
+      none_in_line = refl;
+      few_in_line = refl;
       only_two = refl;
       few = refl;
       many = refl;
@@ -45,6 +59,10 @@ numbers =
       short_list = refl;
       full_list = refl;
       no_list = refl;
+      filled = refl;
+      filled_before = refl;
+      filled_to_its_room = refl;
+      not_filled = refl;
       parameters = refl;
       figures = refl;
     }

@@ -13,8 +13,8 @@ use Rattle.maps.specs.declared.Place.{Place}
 use Rattle.wording.specs.declared.Reason.TheVariants.{UnknownCommand, UnknownBurst, TooFewWords, TooManyWords, NotANumber, NumberTooLarge, CountTooLarge, LineTooLong}
 use Rattle.wording.specs.declared.Command.TheVariants.{Split, Join, Hop, Map, Start, Open, Close, Seize, Release, Line, Who, Page, Build, Take, Table}
 use Rattle.wording.specs.declared.BurstName.TheVariants.{Normal, Synchronization, Access, FrequencyCorrection, Dummy}
-use Rattle.wording.specs.Words.{ascii, until, run, words_of, same_text}
-use Rattle.wording.specs.Numbers.{number_of, numbers_of, only_of, list_of, parameter, figure}
+use Rattle.wording.specs.Words.{ascii, parted, past, words_of, first_word, after_words, first_line, same_text}
+use Rattle.wording.specs.Numbers.{number_of, numbers_of, numbers_in, only_of, list_of, list_filled, parameter, figure}
 use Rattle.wording.specs.Print.{decimal, right, left, spaced, bit_character, written}
 use Rattle.wording.specs.Names.{command_of, burst_of}
 use Rattle.wording.specs.Replies.{done_text, number_text, page_text, split_text, map_text, line_text, who_text, bits_text, error_text}
@@ -28,10 +28,23 @@ pub record WordExamples : Type 0 where
   pub words : words_of (ascii " seize 1  0 4711 ") ≡ ascii "seize" ∷ ascii "1" ∷ ascii "0" ∷ ascii "4711" ∷ []
   pub tab : words_of (97 ∷ 9 ∷ 98 ∷ []) ≡ (97 ∷ 9 ∷ 98 ∷ []) ∷ []
   pub spaces : words_of (ascii "  ") ≡ []
-  -- up to a byte, up to the end where it does not occur, and as long as a byte repeats
-  pub up_to : until 32 (ascii "line 0 1") ≡ ascii "line"
-  pub up_to_end : until 32 (ascii "line") ≡ ascii "line"
-  pub repeated : run 32 (ascii "  line 0") ≡ ascii "  "
+  -- up to a byte and from it on, up to the end where it does not occur, and past a byte that repeats
+  pub up_to : parted 32 (ascii "line 0 1") ≡ (ascii "line", ascii " 0 1")
+  pub up_to_end : parted 32 (ascii "line") ≡ (ascii "line", [])
+  pub repeated : past 32 (ascii "  line  0") ≡ ascii "line  0"
+  pub only_spaces : past 32 (ascii "  ") ≡ []
+  -- the first word, and each byte that follows it; a line of spaces has none
+  pub behind_spaces : first_word (ascii "  line  0 1 ") ≡ Some (ascii "line", ascii "  0 1 ")
+  pub whole_word : first_word (ascii "line") ≡ Some (ascii "line", [])
+  pub no_word : first_word (ascii "  ") ≡ None
+  -- what follows no word, two, and more than there are
+  pub after_none : after_words 0 (ascii " 1 20  300 ") ≡ ascii " 1 20  300 "
+  pub after_two : after_words 2 (ascii " 1 20  300 ") ≡ ascii "  300 "
+  pub after_four : after_words 4 (ascii " 1 20  300 ") ≡ []
+  -- a line ends at its newline, an empty one too; the end of a text ends none
+  pub line : first_line (ascii "line 0\n\nopen") ≡ Some (ascii "line 0", ascii "\nopen")
+  pub empty_line : first_line (ascii "\nopen") ≡ Some ([], ascii "open")
+  pub no_line : first_line (ascii "open") ≡ None
   -- a word that is longer or shorter, or has another byte, is another
   pub same : same_text (ascii "line") (ascii "line") ≡ true
   pub longer : same_text (ascii "lines") (ascii "line") ≡ false
@@ -51,6 +64,11 @@ pub record NumberExamples : Type 0 where
   pub empty : number_of [] ≡ Err NotANumber
   -- two numbers of three words, and with no further word
   pub two : numbers_of 2 (ascii "10" ∷ ascii "20" ∷ ascii "x" ∷ []) ≡ Ok (10 ∷ 20 ∷ [], ascii "x" ∷ [])
+  -- and of a line: what follows them begins right behind the second word
+  pub two_in_line : numbers_in 2 (ascii " 10 20  x ") ≡ Ok (10 ∷ 20 ∷ [], ascii "  x ")
+  pub all_in_line : numbers_in 2 (ascii "10 20") ≡ Ok (10 ∷ 20 ∷ [], [])
+  pub none_in_line : numbers_in 2 (ascii "10 x 20") ≡ Err NotANumber
+  pub few_in_line : numbers_in 2 (ascii "10 ") ≡ Err TooFewWords
   pub only_two : only_of 2 (ascii "10" ∷ ascii "20" ∷ []) ≡ Ok (10 ∷ 20 ∷ [])
   -- "too few words", "too many words", "not a number", "number too large"; of two mistakes the first is told
   pub few : only_of 2 (ascii "10" ∷ []) ≡ Err TooFewWords
@@ -62,6 +80,11 @@ pub record NumberExamples : Type 0 where
   pub short_list : list_of 3 [] ≡ Ok []
   pub full_list : list_of 1 (ascii "10" ∷ ascii "20" ∷ []) ≡ Err TooManyWords
   pub no_list : list_of 3 (ascii "10" ∷ ascii "1x" ∷ []) ≡ Err NotANumber
+  -- the lent list has these numbers; on an error those of the words before the one at fault, and no more than have room
+  pub filled : list_filled 3 (ascii "10" ∷ ascii "65536" ∷ ascii "30" ∷ []) ≡ (Ok tt, 10 ∷ 65535 ∷ 30 ∷ [])
+  pub filled_before : list_filled 3 (ascii "10" ∷ ascii "1x" ∷ ascii "30" ∷ []) ≡ (Err NotANumber, 10 ∷ [])
+  pub filled_to_its_room : list_filled 1 (ascii "10" ∷ ascii "20" ∷ []) ≡ (Err TooManyWords, 10 ∷ [])
+  pub not_filled : list_filled 3 (ascii "18446744073709551616" ∷ ascii "20" ∷ []) ≡ (Err NumberTooLarge, [])
   -- a parameter's largest value, and one above it
   pub parameters : map parameter (4294967294 ∷ 4294967295 ∷ 4294967296 ∷ []) ≡ 4294967294 ∷ 4294967295 ∷ 4294967295 ∷ []
   -- "a character that is no digit goes in as a byte above 9"

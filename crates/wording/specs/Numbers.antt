@@ -1,6 +1,8 @@
 -- The numbers in a line. Assumes nothing.
-use Rattle.std.specs.Prelude.{ℕ, zero, suc, ◌+◌, ◌-◌, ◌*◌, ◌^◌, min, Bool, false, cond, ◌&&◌, List, [], ◌∷◌, ◌++◌, ltb, leb, Result, Ok, Err}
+use Rattle.std.specs.Prelude.{ℕ, zero, suc, ◌+◌, ◌-◌, ◌*◌, ◌^◌, min, Bool, false, cond, ◌&&◌, List, [], ◌∷◌, ◌++◌, ltb, leb, map, take, Result, Ok, Err}
 use Rattle.std.specs.List.{list_all}
+use Rattle.std.specs.Result.{ok_prefix}
+use Rattle.wording.specs.Words.{words_of, after_words}
 use Rattle.wording.specs.declared.Reason.{Reason}
 use Rattle.wording.specs.declared.Reason.TheVariants.{TooFewWords, TooManyWords, NotANumber, NumberTooLarge}
 
@@ -43,6 +45,15 @@ numbers_after ns (suc k) (w ∷ ws) = with_number (number_of w) (λ n. numbers_a
 abbrev pub numbers_of : ℕ → List (List ℕ) → Result (List ℕ × List (List ℕ)) Reason
 numbers_of k ws = numbers_after [] k ws
 
+-- what an answer says, where f says what its value does
+abbrev pub answer_by : {A B : Type 0} → (A → B) → Result A Reason → Result B Reason
+answer_by f (Ok a) = Ok (f a)
+answer_by f (Err r) = Err r
+
+-- the numbers that the first k words of a line are, and what follows these words; or why they are none
+abbrev pub numbers_in : ℕ → List ℕ → Result (List ℕ × List ℕ) Reason
+numbers_in k line = answer_by (λ found. (found.0, after_words k line)) (numbers_of k (words_of line))
+
 -- the numbers, where no word is left
 abbrev pub with_no_word : List ℕ → List (List ℕ) → Result (List ℕ) Reason
 with_no_word ns [] = Ok ns
@@ -56,14 +67,26 @@ only_these (Err r) = Err r
 abbrev pub only_of : ℕ → List (List ℕ) → Result (List ℕ) Reason
 only_of k ws = only_these (numbers_of k ws)
 
--- all words as numbers, each as 16 bits hold it, after the numbers ns, with room for so many more
+-- a number as 16 bits hold it: a larger one as the largest
+abbrev pub entry : ℕ → ℕ
+entry n = min n 65535
+
+-- all words as numbers of 16 bits, after the numbers ns, with room for so many more
 unfoldable pub list_after : List ℕ → ℕ → List (List ℕ) → Result (List ℕ) Reason
 list_after ns room [] = Ok ns
 list_after ns zero (w ∷ ws) = Err TooManyWords
-list_after ns (suc room) (w ∷ ws) = with_number (number_of w) (λ n. list_after (ns ++ (min n 65535 ∷ [])) room ws)
+list_after ns (suc room) (w ∷ ws) = with_number (number_of w) (λ n. list_after (ns ++ (entry n ∷ [])) room ws)
 
 abbrev pub list_of : ℕ → List (List ℕ) → Result (List ℕ) Reason
 list_of room ws = list_after [] room ws
+
+-- what a lent list has afterwards, on an error too: the numbers of the words before the first that is none, as many as have room
+abbrev pub listed : ℕ → List (List ℕ) → List ℕ
+listed room ws = take room (map entry (ok_prefix (map number_of ws)))
+
+-- whether the words were listed, and why not; and the lent list
+abbrev pub list_filled : ℕ → List (List ℕ) → Result Unit Reason × List ℕ
+list_filled room ws = (answer_by (λ ns. tt) (list_of room ws), listed room ws)
 
 -- "any other number too large for the parameter that it goes to is passed as that parameter's largest value": a parameter has 32 bits
 abbrev pub parameter : ℕ → ℕ

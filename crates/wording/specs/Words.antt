@@ -1,5 +1,5 @@
 -- Text as a list of bytes, and the words of a line. Assumes nothing.
-use Rattle.std.specs.Prelude.{ℕ, Bool, true, false, cond, not, ◌&&◌, List, [], ◌∷◌, eqb}
+use Rattle.std.specs.Prelude.{ℕ, zero, suc, Bool, true, false, cond, not, ◌&&◌, List, [], ◌∷◌, eqb, Option, Some, None, option_map}
 use Prim.Native.Char.{code}
 use Prim.Native.String.{String, [] as nothing, ◌∷◌ as ◌then◌}
 
@@ -13,10 +13,19 @@ unfoldable pub until : ℕ → List ℕ → List ℕ
 until b [] = []
 until b (c ∷ s) = cond (eqb c b) [] (c ∷ until b s)
 
--- the bytes before the first one that is not b
-unfoldable pub run : ℕ → List ℕ → List ℕ
-run b [] = []
-run b (c ∷ s) = cond (eqb c b) (c ∷ run b s) []
+-- the bytes from the first one that is b on
+unfoldable pub from : ℕ → List ℕ → List ℕ
+from b [] = []
+from b (c ∷ s) = cond (eqb c b) (c ∷ s) (from b s)
+
+-- a text in two: the first byte that is b begins the second
+abbrev pub parted : ℕ → List ℕ → List ℕ × List ℕ
+parted b s = (until b s, from b s)
+
+-- the bytes from the first one that is not b on
+unfoldable pub past : ℕ → List ℕ → List ℕ
+past b [] = []
+past b (c ∷ s) = cond (eqb c b) (past b s) (c ∷ s)
 
 -- the text goes on with a word: its first byte is no space
 unfoldable pub in_word : List ℕ → Bool
@@ -33,6 +42,26 @@ joined c true (w ∷ ws) = (c ∷ w) ∷ ws
 unfoldable pub words_of : List ℕ → List (List ℕ)
 words_of [] = []
 words_of (c ∷ s) = cond (eqb c 32) (words_of s) (joined c (in_word s) (words_of s))
+
+-- the first word of a line, and what follows it: past the spaces, up to the next one
+unfoldable pub first_word : List ℕ → Option (List ℕ × List ℕ)
+first_word [] = None
+first_word (c ∷ s) = cond (eqb c 32) (first_word s) (Some (parted 32 (c ∷ s)))
+
+-- what follows a word that was found; nothing, where there was none
+abbrev pub after_word : Option (List ℕ × List ℕ) → List ℕ
+after_word None = []
+after_word (Some found) = found.1
+
+-- what follows the first k words of a line
+unfoldable pub after_words : ℕ → List ℕ → List ℕ
+after_words zero line = line
+after_words (suc k) line = after_words k (after_word (first_word line))
+
+-- "A newline ends a line": the first line of a text, and what follows its newline; none, where there is no newline
+unfoldable pub first_line : List ℕ → Option (List ℕ × List ℕ)
+first_line [] = None
+first_line (c ∷ s) = cond (eqb c 10) (Some ([], s)) (option_map (λ found. (c ∷ found.0, found.1)) (first_line s))
 
 -- two texts have the same bytes
 unfoldable pub same_text : List ℕ → List ℕ → Bool
