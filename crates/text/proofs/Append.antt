@@ -2,7 +2,7 @@
 use Rattle.std.proofs.Common.{◌≡◌, ℕ, ◌+◌, ◌<◌, min, List, [], ◌∷◌, ◌++◌, length, take, map, replicate, get_or, refl, sym, ap, ◌∙◌, append_assoc, append-nil, add-one, arith}
 use Rattle.std.proofs.Math.Seq.{take-suc}
 use Rattle.std.proofs.lemmas.List.{length-replicate, take-replicate}
-use Rattle.wording.specs.Print.{written, decimal, spaced}
+use Rattle.wording.specs.Print.{written, decimal_of, spaced}
 use Rattle.wording.proofs.Written.{written_whole, written-take}
 
 take_more : (l : List ℕ) (i : ℕ) → i < length l → take (i + 1) l ≡ take i l ++ get_or l i 0 ∷ []
@@ -18,12 +18,12 @@ map_more f l i h = sym (ap (map f) (take_more l i h) ∙ map-append f (take i l)
 spaced-append : (ns ms : List ℕ) → spaced (ns ++ ms) ≡ spaced ns ++ spaced ms
 unfolding spaced
 spaced-append [] ms = refl
-spaced-append (n ∷ ns) ms = ap (λ (s : List ℕ). (32 ∷ decimal n) ++ s) (spaced-append ns ms) ∙ sym (append_assoc (32 ∷ decimal n) (spaced ns) (spaced ms))
+spaced-append (n ∷ ns) ms = ap (λ (s : List ℕ). (32 ∷ decimal_of n) ++ s) (spaced-append ns ms) ∙ sym (append_assoc (32 ∷ decimal_of n) (spaced ns) (spaced ms))
 
-pub spaced_more : (l : List ℕ) (i : ℕ) → i < length l → spaced (take i l) ++ ((32 ∷ []) ++ decimal (get_or l i 0)) ≡ spaced (take (i + 1) l)
+pub spaced_more : (l : List ℕ) (i : ℕ) → i < length l → spaced (take i l) ++ ((32 ∷ []) ++ decimal_of (get_or l i 0)) ≡ spaced (take (i + 1) l)
 unfolding spaced
 spaced_more l i h =
-    sym (ap spaced (take_more l i h) ∙ spaced-append (take i l) (get_or l i 0 ∷ []) ∙ ap (λ (s : List ℕ). spaced (take i l) ++ s) (append-nil (32 ∷ decimal (get_or l i 0))))
+    sym (ap spaced (take_more l i h) ∙ spaced-append (take i l) (get_or l i 0 ∷ []) ∙ ap (λ (s : List ℕ). spaced (take i l) ++ s) (append-nil (32 ∷ decimal_of (get_or l i 0))))
 
 -- as many of a byte as have room
 pub replicate_fits : (room : ℕ) (before : List ℕ) (r n m x : ℕ) → r + length before ≡ room → n ≡ min r m → written room before (replicate n x) ≡ written room before (replicate m x)

@@ -4,7 +4,7 @@ use native.Mathlib.Nat.{pow-suc}
 use Rattle.std.proofs.lemmas.Bool.{cases_lt}
 use Rattle.std.proofs.lemmas.Fmt.{decimal_digit, decimal_step}
 use Rattle.std.specs.Fmt.{decimal as std_decimal}
-use Rattle.wording.specs.Print.{decimal, decimal_within}
+use Rattle.wording.specs.Print.{decimal_of, decimal_within}
 use Rattle.wording.proofs.Digits.{one_digit, more_digits}
 
 within : (k n : ℕ) → n < 10 ^ suc k → n < 2 ^ 64 → std_decimal n ≡ decimal_within (suc k) n
@@ -16,5 +16,5 @@ within (suc k) n h s = elim (cases_lt n 10) [
       decimal_step n high s ∙ ap (λ (ds : List ℕ). ds ++ ((48 + n % 10) ∷ [])) (within k (n / 10) (omega arith) (omega arith)) ∙ sym (more_digits (suc k) n high)
 ]
 
-pub std_decimal-decimal : (n : ℕ) → n < 2 ^ 64 → std_decimal n ≡ decimal n
+pub std_decimal-decimal : (n : ℕ) → n < 2 ^ 64 → std_decimal n ≡ decimal_of n
 std_decimal-decimal n h = within 19 n (omega arith) h

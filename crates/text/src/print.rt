@@ -1,6 +1,6 @@
 // What is written to a buffer of fixed size, behind what stands there. What has no room is left out, so nothing can fail.
 ghost use Rattle.std.specs.Prelude.{◌≡◌, [], ◌∷◌, map, replicate};
-ghost use Rattle.wording.specs.Print.{written, decimal, right, left, spaced, bit_character};
+ghost use Rattle.wording.specs.Print.{written, decimal_of, right, left, spaced, bit_character};
 
 use arrayvec::ArrayVec;
 use itoa::Buffer;
@@ -29,14 +29,14 @@ pub fn put_spaces<const N: usize>(out: &mut ArrayVec<u8, N>, count: usize)
 
 // A number in decimal.
 pub fn put_number<const N: usize>(out: &mut ArrayVec<u8, N>, n: u64)
-    ensures { out.new.items ≡ written N out.old.items (decimal n) }
+    ensures { out.new.items ≡ written N out.old.items (decimal_of n) }
 {
     put(out, Buffer::new().format(n).as_bytes());
 }
 
 // A number with spaces before it, up to `width` characters.
 pub fn put_right<const N: usize>(out: &mut ArrayVec<u8, N>, n: u64, width: usize)
-    ensures { out.new.items ≡ written N out.old.items (right width (decimal n)) }
+    ensures { out.new.items ≡ written N out.old.items (right width (decimal_of n)) }
 {
     let mut buffer = Buffer::new();
     let text = buffer.format(n).as_bytes();
@@ -46,7 +46,7 @@ pub fn put_right<const N: usize>(out: &mut ArrayVec<u8, N>, n: u64, width: usize
 
 // A number with spaces after it, up to `width` characters.
 pub fn put_left<const N: usize>(out: &mut ArrayVec<u8, N>, n: u64, width: usize)
-    ensures { out.new.items ≡ written N out.old.items (left width (decimal n)) }
+    ensures { out.new.items ≡ written N out.old.items (left width (decimal_of n)) }
 {
     let mut buffer = Buffer::new();
     let text = buffer.format(n).as_bytes();

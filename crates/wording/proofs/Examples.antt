@@ -44,8 +44,8 @@ numbers =
       zeros = refl;
       before_0 = refl;
       after_9 = refl;
-      empty = refl;
-      two = refl;
+      no_character = refl;
+      two_numbers = refl;
       two_in_line = refl;
       all_in_line = refl;
       none_in_line = refl;
@@ -55,7 +55,7 @@ numbers =
       many = refl;
       no_number = refl;
       large = refl;
-      list = refl;
+      whole_list = refl;
       short_list = refl;
       full_list = refl;
       no_list = refl;
@@ -74,11 +74,11 @@ print =
       digit = refl;
       last_digit = refl;
       two_digits = refl;
-      all_digits = refl;
+      twenty_digits = refl;
       on_right = refl;
       on_left = refl;
       too_narrow = refl;
-      row = refl;
+      in_a_row = refl;
       bits = refl;
       fills = refl;
       cuts = refl;
@@ -86,7 +86,7 @@ print =
 
 pub names : NameExamples
 unfolding same_text named command_of burst_of
-names = record { commands = refl; later_commands = refl; bursts = refl; none = refl; no_burst = refl }
+names = record { commands = refl; later_commands = refl; bursts = refl; no_command = refl; no_burst = refl }
 
 pub replies : ReplyExamples
 unfolding decimal_within spaced any_of prime_of
@@ -129,7 +129,7 @@ replies =
       many = refl;
       no_number = refl;
       large = refl;
-      count = refl;
+      large_count = refl;
       long_line = refl;
     }
 
@@ -137,8 +137,8 @@ pub table : TableExamples
 unfolding decimal_within
 table =
     record {
-      head = refl;
-      up = refl;
+      downlink = refl;
+      uplink = refl;
       title = refl;
       idle = refl;
       part = refl;

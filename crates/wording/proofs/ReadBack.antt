@@ -12,7 +12,7 @@ use Rattle.std.proofs.lemmas.List.Folds.{list_all-append}
 use Rattle.answers.proofs.Tests.{and_both}
 use Rattle.std.specs.Prelude.{Ok}
 use Rattle.wording.specs.Numbers.{is_digit, all_digits, value_from, number_of}
-use Rattle.wording.specs.Print.{decimal, decimal_within}
+use Rattle.wording.specs.Print.{decimal_of, decimal_within}
 use Rattle.wording.proofs.Digits.{some_digits, number_value, is_value, one_digit, more_digits}
 
 value_append : (xs ys : List ℕ) (m : ℕ) → value_from m (xs ++ ys) ≡ value_from (value_from m xs) ys
@@ -65,6 +65,6 @@ some k n = go (ltb n 10) refl
         omega (arith, l)
 
 -- what `put_number` writes, `number` reads
-pub reads_back : (n : ℕ) → n < 2 ^ 64 → number_of (decimal n) ≡ Ok n
+pub reads_back : (n : ℕ) → n < 2 ^ 64 → number_of (decimal_of n) ≡ Ok n
 reads_back n h =
-    number_value (decimal n) (some_digits (decimal n) (some 19 n) ∙ digits_decimal 20 n) ∙ is_value n (value_from 0 (decimal n)) (value_decimal 20 n (omega (arith, h))) h
+    number_value (decimal_of n) (some_digits (decimal_of n) (some 19 n) ∙ digits_decimal 20 n) ∙ is_value n (value_from 0 (decimal_of n)) (value_decimal 20 n (omega (arith, h))) h

@@ -3,7 +3,7 @@ use Rattle.std.specs.Prelude.{ℕ, ◌+◌, ◌^◌, ◌<◌, ◌≤◌, ◌≡�
 use Rattle.wording.specs.declared.Reason.{Reason}
 use Rattle.wording.specs.Words.{until, parted, past, words_of, first_word, after_words, first_line}
 use Rattle.wording.specs.Numbers.{number_of, numbers_of, numbers_in, list_of, list_filled}
-use Rattle.wording.specs.Print.{decimal, written}
+use Rattle.wording.specs.Print.{decimal_of, written}
 
 -- a text in two is the text
 pub record PartedWhole : Type 0 where
@@ -36,7 +36,7 @@ pub record ListFilled : Type 0 where
 
 -- a number that is written reads as itself
 pub record ReadsBack : Type 0 where
-  pub number : (n : ℕ) → n < 2 ^ 64 → number_of (decimal n) ≡ Ok n
+  pub number : (n : ℕ) → n < 2 ^ 64 → number_of (decimal_of n) ≡ Ok n
 
 -- what has room is written whole, behind the bytes that stood before it; two texts, one after the other, are one text
 pub record WrittenWhole : Type 0 where

@@ -15,7 +15,7 @@ use Rattle.wording.specs.declared.Command.TheVariants.{Split, Join, Hop, Map, St
 use Rattle.wording.specs.declared.BurstName.TheVariants.{Normal, Synchronization, Access, FrequencyCorrection, Dummy}
 use Rattle.wording.specs.Words.{ascii, parted, past, words_of, first_word, after_words, first_line, same_text}
 use Rattle.wording.specs.Numbers.{number_of, numbers_of, numbers_in, only_of, list_of, list_filled, parameter, figure}
-use Rattle.wording.specs.Print.{decimal, right, left, spaced, bit_character, written}
+use Rattle.wording.specs.Print.{decimal_of, right, left, spaced, bit_character, written}
 use Rattle.wording.specs.Names.{command_of, burst_of}
 use Rattle.wording.specs.Replies.{done_text, number_text, page_text, split_text, map_text, line_text, who_text, bits_text, error_text}
 use Rattle.wording.specs.Table.{head_text, title_text, frame_text, cell_text}
@@ -61,9 +61,9 @@ pub record NumberExamples : Type 0 where
   -- the characters beside 0 and 9 are no digits, and no character is no number
   pub before_0 : number_of (ascii "1/") ≡ Err NotANumber
   pub after_9 : number_of (ascii "1:") ≡ Err NotANumber
-  pub empty : number_of [] ≡ Err NotANumber
+  pub no_character : number_of [] ≡ Err NotANumber
   -- two numbers of three words, and with no further word
-  pub two : numbers_of 2 (ascii "10" ∷ ascii "20" ∷ ascii "x" ∷ []) ≡ Ok (10 ∷ 20 ∷ [], ascii "x" ∷ [])
+  pub two_numbers : numbers_of 2 (ascii "10" ∷ ascii "20" ∷ ascii "x" ∷ []) ≡ Ok (10 ∷ 20 ∷ [], ascii "x" ∷ [])
   -- and of a line: what follows them begins right behind the second word
   pub two_in_line : numbers_in 2 (ascii " 10 20  x ") ≡ Ok (10 ∷ 20 ∷ [], ascii "  x ")
   pub all_in_line : numbers_in 2 (ascii "10 20") ≡ Ok (10 ∷ 20 ∷ [], [])
@@ -76,7 +76,7 @@ pub record NumberExamples : Type 0 where
   pub no_number : only_of 2 (ascii "x" ∷ []) ≡ Err NotANumber
   pub large : only_of 1 (ascii "18446744073709551616" ∷ ascii "20" ∷ []) ≡ Err NumberTooLarge
   -- a list with room for three; a number too large for 16 bits is the largest of them
-  pub list : list_of 3 (ascii "65534" ∷ ascii "65535" ∷ ascii "65536" ∷ []) ≡ Ok (65534 ∷ 65535 ∷ 65535 ∷ [])
+  pub whole_list : list_of 3 (ascii "65534" ∷ ascii "65535" ∷ ascii "65536" ∷ []) ≡ Ok (65534 ∷ 65535 ∷ 65535 ∷ [])
   pub short_list : list_of 3 [] ≡ Ok []
   pub full_list : list_of 1 (ascii "10" ∷ ascii "20" ∷ []) ≡ Err TooManyWords
   pub no_list : list_of 3 (ascii "10" ∷ ascii "1x" ∷ []) ≡ Err NotANumber
@@ -93,15 +93,15 @@ pub record NumberExamples : Type 0 where
 -- ---- what is written
 
 pub record PrintExamples : Type 0 where
-  pub digit : decimal 0 ≡ ascii "0"
-  pub last_digit : decimal 9 ≡ ascii "9"
-  pub two_digits : decimal 10 ≡ ascii "10"
-  pub all_digits : decimal 18446744073709551615 ≡ ascii "18446744073709551615"
+  pub digit : decimal_of 0 ≡ ascii "0"
+  pub last_digit : decimal_of 9 ≡ ascii "9"
+  pub two_digits : decimal_of 10 ≡ ascii "10"
+  pub twenty_digits : decimal_of 18446744073709551615 ≡ ascii "18446744073709551615"
   -- a column of five, and one that is too narrow
-  pub on_right : right 5 (decimal 4711) ≡ ascii " 4711"
-  pub on_left : left 5 (decimal 4711) ≡ ascii "4711 "
-  pub too_narrow : right 3 (decimal 4711) ≡ ascii "4711"
-  pub row : spaced (0 ∷ 4 ∷ 26 ∷ []) ≡ ascii " 0 4 26"
+  pub on_right : right 5 (decimal_of 4711) ≡ ascii " 4711"
+  pub on_left : left 5 (decimal_of 4711) ≡ ascii "4711 "
+  pub too_narrow : right 3 (decimal_of 4711) ≡ ascii "4711"
+  pub in_a_row : spaced (0 ∷ 4 ∷ 26 ∷ []) ≡ ascii " 0 4 26"
   pub bits : map bit_character (0 ∷ 1 ∷ []) ≡ ascii "01"
   -- behind one byte of three: two bytes fill the buffer, of three the last is left out
   pub fills : written 3 (ascii "a") (ascii "ok") ≡ ascii "aok"
@@ -119,7 +119,7 @@ pub record NameExamples : Type 0 where
   pub bursts :
       map burst_of (ascii "normal" ∷ ascii "sync" ∷ ascii "access" ∷ ascii "frequency" ∷ ascii "dummy" ∷ [])
       ≡ Some Normal ∷ Some Synchronization ∷ Some Access ∷ Some FrequencyCorrection ∷ Some Dummy ∷ []
-  pub none : map command_of (ascii "Split" ∷ ascii "tables" ∷ [] ∷ []) ≡ None ∷ None ∷ None ∷ []
+  pub no_command : map command_of (ascii "Split" ∷ ascii "tables" ∷ [] ∷ []) ≡ None ∷ None ∷ None ∷ []
   pub no_burst : map burst_of (ascii "syn" ∷ ascii "split" ∷ []) ≡ None ∷ None ∷ []
 
 -- ---- the answers
@@ -129,11 +129,11 @@ abbrev pub place_in : ℕ → ℕ → Place
 place_in block n = record { block = block; place = n }
 
 -- a channel in subchannel 0 that has one block, or two
-abbrev pub single : Kind → Place → Content
-single kind p = Channel (record { kind = kind; subchannel = 0; blocks = One p })
+abbrev pub with_one : Kind → Place → Content
+with_one kind p = Channel (record { kind = kind; subchannel = 0; blocks = One p })
 
-abbrev pub double : Place → Place → Content
-double p q = Channel (record { kind = Tch; subchannel = 0; blocks = Two p q })
+abbrev pub with_two : Place → Place → Content
+with_two p q = Channel (record { kind = Tch; subchannel = 0; blocks = Two p q })
 
 -- what a line sends: its ARFCN, the owner, and the channel
 abbrev pub sent : ℕ → ℕ → Content → OnAir
@@ -141,21 +141,21 @@ sent arfcn owner content = record { arfcn = arfcn; content = content; owner = ow
 
 -- line 2 of the timetable in frame 9, and with another ARFCN and nobody that holds it; and in frame 12, where the channel has number 2
 abbrev pub traffic : Content
-traffic = double (place_in 2 1) (place_in 1 5)
+traffic = with_two (place_in 2 1) (place_in 1 5)
 
 abbrev pub later : Kind → Content
-later kind = single kind (place_in 0 3)
+later kind = with_one kind (place_in 0 3)
 
 -- a common part, and a line that has nothing to send
 abbrev pub common : OnAir
-common = sent 10 0 (single Ccch (place_in 4 0))
+common = sent 10 0 (with_one Ccch (place_in 4 0))
 
 abbrev pub silent : OnAir
 silent = sent 10 0 Idle
 
 -- where a channel stands, as `map` answers
 abbrev pub mapped : Kind → Result Content Refusal
-mapped kind = Ok (single kind (place_in 4 3))
+mapped kind = Ok (with_one kind (place_in 4 3))
 
 pub record ReplyExamples : Type 0 where
   pub done : done_text (Ok tt) ≡ ascii "ok\n"
@@ -199,14 +199,14 @@ pub record ReplyExamples : Type 0 where
   pub many : error_text 12 TooManyWords ≡ ascii "error 12 too many words\n"
   pub no_number : error_text 12 NotANumber ≡ ascii "error 12 not a number\n"
   pub large : error_text 12 NumberTooLarge ≡ ascii "error 12 number too large\n"
-  pub count : error_text 12 CountTooLarge ≡ ascii "error 12 count too large\n"
+  pub large_count : error_text 12 CountTooLarge ≡ ascii "error 12 count too large\n"
   pub long_line : error_text 12 LineTooLong ≡ ascii "error 12 line too long\n"
 
 -- ---- a timetable
 
 pub record TableExamples : Type 0 where
-  pub head : head_text 2 0 52 0 ≡ ascii "timeslot 2 downlink, 52 frames from 0, open lines:"
-  pub up : head_text 0 1 7 2715647 ≡ ascii "timeslot 0 uplink, 7 frames from 2715647, open lines:"
+  pub downlink : head_text 2 0 52 0 ≡ ascii "timeslot 2 downlink, 52 frames from 0, open lines:"
+  pub uplink : head_text 0 1 7 2715647 ≡ ascii "timeslot 0 uplink, 7 frames from 2715647, open lines:"
   -- the column's title stands over its rows
   pub title : title_text 2 ≡ ascii " line 2                        |"
   pub idle : cell_text silent ≡ ascii "    10 idle                    |"

@@ -7,8 +7,8 @@ decimal_within zero n = []
 decimal_within (suc k) n = cond (ltb n 10) ((48 + n) ∷ []) (decimal_within k (n / 10) ++ ((48 + n % 10) ∷ []))
 
 -- a number below 2^64 has at most 20 digits
-abbrev pub decimal : ℕ → List ℕ
-decimal n = decimal_within 20 n
+abbrev pub decimal_of : ℕ → List ℕ
+decimal_of n = decimal_within 20 n
 
 -- a text in a column: with spaces before it, or after it, up to a width
 abbrev pub right : ℕ → List ℕ → List ℕ
@@ -20,7 +20,7 @@ left width t = t ++ replicate (width - length t) 32
 -- numbers with a space before each
 unfoldable pub spaced : List ℕ → List ℕ
 spaced [] = []
-spaced (n ∷ ns) = 32 ∷ decimal n ++ spaced ns
+spaced (n ∷ ns) = 32 ∷ decimal_of n ++ spaced ns
 
 -- "BITS is a word of the characters 0 and 1"
 abbrev pub bit_character : ℕ → ℕ

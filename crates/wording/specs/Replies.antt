@@ -17,7 +17,7 @@ use Rattle.maps.specs.declared.Kind.TheVariants.{Tch, Sacch, Sdcch, Fcch, Sch, B
 use Rattle.maps.specs.declared.OnAir.{OnAir}
 use Rattle.maps.specs.declared.Place.{Place}
 use Rattle.wording.specs.Words.{ascii}
-use Rattle.wording.specs.Print.{decimal, spaced, bit_character}
+use Rattle.wording.specs.Print.{decimal_of, spaced, bit_character}
 use Rattle.wording.specs.declared.Reason.{Reason}
 use Rattle.wording.specs.declared.Reason.TheVariants.{UnknownCommand, UnknownBurst, TooFewWords, TooManyWords, NotANumber, NumberTooLarge, CountTooLarge, LineTooLong}
 
@@ -122,4 +122,4 @@ reason_text LineTooLong = ascii "line too long"
 
 -- "`error LINENUMBER REASON`"
 abbrev pub error_text : ℕ → Reason → List ℕ
-error_text number reason = ascii "error " ++ decimal number ++ ascii " " ++ reason_text reason ++ ascii "\n"
+error_text number reason = ascii "error " ++ decimal_of number ++ ascii " " ++ reason_text reason ++ ascii "\n"
