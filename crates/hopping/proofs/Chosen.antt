@@ -7,7 +7,7 @@ use borrow.Author.Tests.{lt-ltb}
 use Rattle.hops.specs.Masks.{ones}
 use Rattle.hops.specs.Hopping.{mai_of, line_position}
 use Rattle.hops.proofs.Mai.{mai_lt}
-use Rattle.select.specs.Select.{select_of}
+use Rattle.select.specs.Helpers.{select_of}
 
 -- MAI is below N, so that the mask has a one with MAI ones below it
 pub selected : (m hsn maio fn : ℕ) → maio < ones m → select_of m (mai_of (ones m) hsn maio fn) ≡ line_position m hsn maio fn

@@ -3,14 +3,14 @@ use Prim.Native.Nat.{ℕ, zero, suc, ◌+◌, ◌*◌, ◌/◌, ◌%◌, ◌^◌
 use mathlib.Core.Path.{◌≡◌, refl, sym, ap, ◌∙◌, subst}
 use mathlib.Core.Bool.{Bool, true, false, not, ◌&&◌}
 use mathlib.Core.Logic.{◌⊎◌, inl, inr, ⊎_elim}
-use native.Mathlib.Nat.{mod-lt, mod-one, mod-eq_of_lt, add-zero, add-suc, not-suc-le-zero, le_refl, zero-div, add-sub_of_le, sub-add_cancel, le_of_lt, div-eq_of_lt}
+use native.Mathlib.Nat.{mod-lt, mul-mod_left, mod-one, mod-eq_of_lt, add-zero, add-suc, not-suc-le-zero, le_refl, zero-div, add-sub_of_le, sub-add_cancel, le_of_lt, div-eq_of_lt}
 use native.Mathlib.Numerals.{one-add}
 use native.Mathlib.Omega.{arith}
 use native.Mathlib.Decide.{dec_lt}
 use lib.Bits.{bit_and, and_shr, and_step, and_lt}
 use lib.Count as Count
 use lib.Dec.{eqb, leb}
-use lib.Pow.{pow_pos, mod-pow-add, shr-shr, shr_lt}
+use lib.Pow.{pow_pos, mod-pow-add, shl-shr, shr-shr, shr_lt}
 use borrow.Author.Tests.{eq-eqb, ne_eqb, eqb-true, eqb-false, le-leb, lt-leb, leb-true}
 use Rattle.answers.specs.Search.{any_below}
 use Rattle.answers.proofs.Search.{any_at, any_none, least_at, First, first_or_none}
@@ -113,6 +113,16 @@ ones_count m (suc k) =
 
 pub count_ones : (m : ℕ) → m < 2 ^ 64 → Count.ones m ≡ ones m
 count_ones m h = ap Count.ones (sym (mod-eq_of_lt h)) ∙ ones_count m 64
+
+-- of n bits, shifted up by n - p, the lowest p are left: the machine's count of them
+pub ones_shifted_up : (m n p : ℕ) → p ≤ n → Count.ones (m * 2 ^ (n - p) % 2 ^ n) ≡ ones_below m p
+ones_shifted_up m n p h =
+    let k = n - p in
+    let a = m * 2 ^ k in
+    let whole : a % 2 ^ n ≡ a / 2 ^ k % 2 ^ p * 2 ^ k + a % 2 ^ k = ap (λ (x : ℕ). a % 2 ^ x) (sym (add-sub_of_le h)) ∙ mod-pow-add a p k in
+    let above : Count.ones (a / 2 ^ k % 2 ^ p) ≡ ones_below m p = ap (λ (x : ℕ). Count.ones (x % 2 ^ p)) (shl-shr m k) ∙ ones_count m p in
+    let under : Count.ones (a % 2 ^ k) ≡ 0 = ap Count.ones (mul-mod_left m (2 ^ k)) ∙ ones_bit 0 (omega arith) in
+    ap Count.ones whole ∙ (Count.ones_cat k (a / 2 ^ k % 2 ^ p) (a % 2 ^ k) (mod-lt a (pow_pos k)) ∙ (omega arith))
 
 -- ---- the bit that has i ones below it
 

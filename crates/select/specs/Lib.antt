@@ -1,1 +1,1 @@
-pub mod Select
+pub mod Helpers

@@ -1,4 +1,4 @@
--- What `position_at` gives for every number. Assumes nothing.
+-- What the helpers of the code compute: here `position_at`, for every number. No part of what is promised to a caller of the library. Assumes nothing.
 use Rattle.std.specs.Prelude.{ℕ, cond, ltb}
 use Rattle.hops.specs.Masks.{ones, position_at}
 
