@@ -21,7 +21,7 @@ half k = get_or (32 ∷ 16 ∷ 8 ∷ 4 ∷ 2 ∷ 1 ∷ []) k 0
 abbrev left : ℕ → ℕ
 left k = 2 ^ (6 - k)
 
-two_halves : (k : ℕ) → k < 6 → half k + half k ≡ left k
+pub two_halves : (k : ℕ) → k < 6 → half k + half k ≡ left k
 unfolding all_below
 two_halves k h = eqb-true _ _ (all_at (λ k. eqb (half k + half k) (left k)) 6 refl k h)
 
@@ -55,18 +55,23 @@ module _ (m i at w : ℕ) (x : Among m i at (w + w)) where
       let all : ones_below m (at + w) ≤ ones m = ones_mono m (omega arith) in
       record { below = x.below; above = λ l. h; last = λ l. absurd (omega arith) }
 
--- the same of halving k
-module _ (m i at k : ℕ) (x : Among m i at (left k)) (turn : k < 6) where
-  halves : Among m i at (half k + half k)
-  halves = subst (Among m i at) (sym (two_halves k turn)) x
+-- the same of halving k, where `rest` of the 64 bits are not below the first of those
+module _ (m i rest k : ℕ) (x : Among m i (64 - rest) (left k)) (turn : k < 6) (all : rest ≤ 64) (room : left k ≤ rest) where
+  halves : Among m i (64 - rest) (half k + half k)
+  halves = subst (Among m i (64 - rest)) (sym (two_halves k turn)) x
 
-  pub to_upper : ones_below m (at + half k) ≤ i → Among m i (at + half k) (left (k + 1))
-  to_upper h = subst (Among m i (at + half k)) (sym (one_half k turn)) (upper m i at (half k) halves h)
+  middle : 64 - rest + half k ≡ 64 - (rest - half k)
+  middle = let e = two_halves k turn in omega arith
 
-  pub to_lower : at + left k ≤ 64 → i < ones_below m (at + half k) → Among m i at (left (k + 1))
-  to_lower r h =
+  pub to_upper : ones_below m (64 - (rest - half k)) ≤ i → Among m i (64 - (rest - half k)) (left (k + 1))
+  to_upper h =
+      rw (one_half k turn) (subst (λ (p : ℕ). ones_below m p ≤ i → Among m i p (half k)) middle (upper m i (64 - rest) (half k) halves) h)
+
+  pub to_lower : i < ones_below m (64 - (rest - half k)) → Among m i (64 - rest) (left (k + 1))
+  to_lower h =
       let e = two_halves k turn in
-      subst (Among m i at) (sym (one_half k turn)) (lower m i at (half k) halves (omega arith) h)
+      rw (one_half k turn)
+      (lower m i (64 - rest) (half k) halves (omega arith) (subst (λ (p : ℕ). i < ones_below m p) (sym middle) h))
 
 -- of one bit it is that bit, or the last
 one_bit : (m i at : ℕ) → Among m i at 1 → at < 64 → at ≡ select_of m i
@@ -81,8 +86,8 @@ one_bit m i at x room = go (ltb i (ones m)) refl
         sym (position_is m i at room (omega arith) (omega arith))
     go false e = let h = x.last (ltb-false _ _ e) in omega arith
 
-pub found : (m i at k : ℕ) → Among m i at (left k) → at + left k ≤ 64 → 6 ≤ k → at ≡ select_of m i
-found m i at k x room end =
+pub found : (m i rest k : ℕ) → Among m i (64 - rest) (left k) → rest ≤ 64 → left k ≤ rest → 6 ≤ k → 64 - rest ≡ select_of m i
+found m i rest k x all room end =
     let none : 6 - k ≡ 0 = omega arith in
     let e : left k ≡ 1 = ap (λ (n : ℕ). 2 ^ n) none in
-    one_bit m i at (subst (Among m i at) e x) (omega arith)
+    one_bit m i (64 - rest) (subst (Among m i (64 - rest)) e x) (omega arith)

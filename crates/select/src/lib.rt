@@ -15,16 +15,17 @@ fn ones_below(mask: u64, p: u32) -> u32
 }
 
 // The mask's one that has mai ones below it, 63 if there is none, which whoever hops has ruled out: an Option would be unwrapped there, and be no plainer.
-// With at most mai ones below the middle of what is left, it is in the upper half. A loop, since a fold over a closure would be compiled with branches.
-#[tactic(auto, using(crate::proofs::Halving::one_half, crate::proofs::Halving::whole, crate::proofs::Halving::to_upper, crate::proofs::Halving::to_lower, crate::proofs::Halving::found))]
+// It is one of the highest `rest` bits; the lower half of those left drops out if at most mai ones stand below the middle. A loop, since a fold over a
+// closure would be compiled with branches, and `rest` in place of the lowest bit left, since that is what the mask is shifted by.
+#[tactic(auto, using(crate::proofs::Halving::two_halves, crate::proofs::Halving::one_half, crate::proofs::Halving::whole, crate::proofs::Halving::to_upper, crate::proofs::Halving::to_lower, crate::proofs::Halving::found))]
 pub fn position_at(mask: u64, mai: u32) -> u32
     ensures { result ≡ select_of mask mai }
 {
-    let mut at = 0;
+    let mut rest = 64;
     for half in [32, 16, 8, 4, 2, 1] {
-        if ones_below(mask, at + half) <= mai {
-            at += half;
+        if ones_below(mask, 64 - (rest - half)) <= mai {
+            rest -= half;
         }
     }
-    at
+    64 - rest
 }
