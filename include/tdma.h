@@ -125,12 +125,13 @@ typedef struct {
 /*
  * The position in a cell allocation of `length` entries that a line uses in a frame, for a caller
  * whose cell allocation is known to be right. Its cost does not depend on the length.
- *   length: of the cell allocation, 1 to 64. With 0 no mask is allowed, above 64 every mask but zero is.
+ *   length: of the cell allocation, 1 to 64.
  *   mask:   the mobile allocation, not zero, no one at or above the length.
  *   hsn:    0 (cyclic) to 63.
  *   maio:   0 to N - 1.
  *   frame:  0 to TDMA_HYPERFRAME - 1.
- * Refusals, in this order: TDMA_OUT_OF_RANGE (hsn, frame), TDMA_MOBILE_ALLOCATION, TDMA_MAIO.
+ * Refusals, in this order: TDMA_CELL_ALLOCATION (length), TDMA_OUT_OF_RANGE (hsn, frame),
+ * TDMA_MOBILE_ALLOCATION, TDMA_MAIO.
  */
 tdma_position_answer tdma_position(uint32_t length, uint64_t mask, uint32_t hsn, uint32_t maio,
                                    uint32_t frame);
@@ -330,7 +331,8 @@ typedef struct {
  *                          characters. The last three decide.
  *   frame:                 0 to TDMA_HYPERFRAME - 1.
  * Refusals, in this order: TDMA_OUT_OF_RANGE (digits, frame), TDMA_NO_COMMON_LINE (no line of
- * combination 4, 5 or 6 is open).
+ * combination 4, 5 or 6 is open). Of storage that no call has filled, TDMA_CELL_PARAMETER
+ * (BS_AG_BLKS_RES, BS_PA_MFRMS) before these, and TDMA_COMMON_CHANNEL (its common lines) between.
  *
  *     static const uint8_t imsi[] = {2, 6, 2, 0, 1, 1, 2, 3};
  *     tdma_page_answer page = tdma_page(&cell, imsi, 8, 0);

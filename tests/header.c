@@ -68,11 +68,15 @@ static void hopping_calls(void)
     tdma_position_answer position = tdma_position(4, 15, 1, 0, 3);
     tdma_position_answer above = tdma_position(4, UINT64_C(1) << 63, 1, 1, 3);
     tdma_position_answer maio = tdma_position(64, UINT64_MAX, 63, 64, 0);
+    tdma_position_answer empty = tdma_position(0, 0, 64, 0, 0);
+    tdma_position_answer too_long = tdma_position(65, 1, 0, 0, 0);
 
     expect("hop", hop.refusal == TDMA_ACCEPTED && hop.arfcn == 30);
     expect("hop, refused", none.refusal == TDMA_CELL_ALLOCATION && none.arfcn == 0);
     expect("position", position.refusal == TDMA_ACCEPTED && position.position == 2);
     expect("position, mask refused", above.refusal == TDMA_MOBILE_ALLOCATION);
+    expect("position, length refused",
+           empty.refusal == TDMA_CELL_ALLOCATION && too_long.refusal == TDMA_CELL_ALLOCATION);
     expect("position, MAIO refused", maio.refusal == TDMA_MAIO && maio.position == 0);
 }
 

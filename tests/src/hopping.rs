@@ -81,6 +81,7 @@ pub fn position(length: u32, mask: u64, hsn: u32, maio: u32, frame: u32) -> Answ
         (MAIO, maio >= n),
         (MOBILE_ALLOCATION, list.is_empty() || above),
         (OUT_OF_RANGE, hsn > 63 || split(frame).is_err()),
+        (CELL_ALLOCATION, !(1..=64).contains(&length)),
     ])?;
     let mai = mobile_allocation_index(n, hsn, maio, frame, split(frame)?);
     Ok(list[mai as usize])

@@ -223,13 +223,27 @@ fn who_returns(cell: &library::Cell, call: (u32, u32, u32, u32), odd: bool) {
     assert_eq!(answer == refused, odd, "{answer:?}");
 }
 
+/// AG or P of the storage may be out of range (2, before 3), its common lines misplaced (8), or none
+/// there (16); where page is accepted, a common line may stand in the timeslot.
 fn page_returns(cell: &library::Cell, imsi: &Imsi, frame: u32, odd: bool) {
-    let refused = PageAnswer {
-        refusal: OUT_OF_RANGE,
-        ..Default::default()
-    };
     let answer = library::page(cell, imsi.digits(), frame);
-    assert_eq!(answer == refused, odd, "{answer:?}");
+    let PageAnswer {
+        refusal,
+        tn,
+        block,
+        frame,
+    } = answer;
+    if odd {
+        assert!([CELL_PARAMETER, OUT_OF_RANGE].contains(&refusal), "{answer:?}");
+    } else {
+        let refusals = [0, CELL_PARAMETER, COMMON_CHANNEL, NO_COMMON_LINE];
+        assert!(refusals.contains(&refusal), "{answer:?}");
+    }
+    if refusal == 0 {
+        assert!([0, 2, 4, 6].contains(&tn) && block <= 8 && frame < HYPERFRAME, "{answer:?}");
+    } else {
+        assert_eq!((tn, block, frame), (0, 0, 0), "{answer:?}");
+    }
 }
 
 /// A call on storage returns; where it is refused, it leaves the storage as it was.

@@ -314,9 +314,11 @@ fn position_takes_every_length() {
             1 << 31,
             u32::MAX,
         ] {
-            seen.insert(case.compare_position(length));
+            let refusal = case.compare_position(length);
+            assert_eq!(refusal == CELL_ALLOCATION, length == 0 || length > 64, "{length}, {case:?}");
+            seen.insert(refusal);
         }
-        assert_ne!(case.compare_position(0), 0);
+        assert_eq!(case.compare_position(0), CELL_ALLOCATION);
     }
-    assert_eq!(Vec::from_iter(seen), [0, 3, 4, 5]);
+    assert_eq!(Vec::from_iter(seen), [0, 1, 3, 4, 5]);
 }

@@ -12,7 +12,7 @@ use native.Mathlib.Omega.{arith}
 use borrow.Author.Tests.{ltb-true}
 use lib.Dec.{ltb}
 use Rattle.answers.specs.Outcome.{Refused, Outcome, refused, accepted, alone, Cause, any_of, decide, ascending, ascending_from}
-use Rattle.answers.specs.Claims.{Caused, None, NoCause, FairAnswer, Decides}
+use Rattle.answers.specs.Claims.{Caused, NoneHolds, NoCause, FairAnswer, DecidesFairly}
 use Rattle.answers.proofs.Tests.{and_left, and_right, or_left, or_right, or_none, or_false, not_both}
 
 -- ---- at a call's returns
@@ -29,12 +29,12 @@ holds i [] h = absurd h
 holds zero (b ∷ bs) h = or_left (any_of bs) h
 holds (suc i) (b ∷ bs) h = or_right b (holds i bs h)
 
-pub none_holds : (bs : List Bool) → None bs → any_of bs ≡ false
+pub none_holds : (bs : List Bool) → NoneHolds bs → any_of bs ≡ false
 unfolding any_of
 none_holds [] h = refl
 none_holds (b ∷ bs) h = or_none h.0 (none_holds bs h.1)
 
-pub holds_none : (bs : List Bool) → any_of bs ≡ false → None bs
+pub holds_none : (bs : List Bool) → any_of bs ≡ false → NoneHolds bs
 unfolding any_of
 holds_none [] h = tt
 holds_none (true ∷ bs) h = not_both refl h
@@ -66,7 +66,7 @@ module _ {A : Type 0} (c : Cause) (cs : List Cause) (answer : A) where
   pub stops : (i : ℕ) → Holds i c.conditions → decide (c ∷ cs) answer ≡ refused c.refusal
   stops i h = first (holds i c.conditions h)
 
-  pub passes : None c.conditions → decide (c ∷ cs) answer ≡ decide cs answer
+  pub passes : NoneHolds c.conditions → decide (c ∷ cs) answer ≡ decide cs answer
   passes h = rest (none_holds c.conditions h)
 
 -- no cause is left
@@ -189,5 +189,5 @@ module _ {A : Type 0} (answer : A) where
   pub fair_answer : (cs : List Cause) → ascending cs ≡ true → FairAnswer answer cs (decide cs answer)
   fair_answer cs h = record { caused = refused_has_cause cs; lowest = λ r. refused_is_lowest 0 cs r h; no_cause = accepted_has_none cs }
 
-pub decides : (A : Type 0) → Decides A
+pub decides : (A : Type 0) → DecidesFairly A
 decides A = record { fair = λ cs answer. fair_answer answer cs }

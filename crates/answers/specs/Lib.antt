@@ -1,4 +1,5 @@
 pub mod Outcome
+pub mod Ranges
 pub mod Refusals
 pub mod Search
 pub mod Claims

@@ -2,9 +2,9 @@
 use Rattle.std.specs.Prelude.{ℕ, ◌<◌, ◌≡◌, List, [], ◌∷◌, Result}
 use Rattle.std.proofs.Math.Option.{some}
 use Rattle.answers.specs.Outcome.{accepted}
+use Rattle.answers.specs.Ranges.{hyperframe}
 use Rattle.answers.specs.Refusals.{outcome_by}
 use Rattle.answers.specs.declared.Refusal.{Refusal}
-use Rattle.clock.specs.Clock.{hyperframe}
 use Rattle.maps.specs.declared.OnAir.{OnAir}
 use Rattle.onair.specs.Told.{slot_in}
 use Rattle.storage.specs.Words.{cell_of}

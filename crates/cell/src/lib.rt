@@ -29,7 +29,7 @@ use rules::{Parameters, Values};
 use storage::{
     CLOSED, WORDS, length, owner_at, parameters, put_line, put_owner, put_start, values_at,
 };
-use subchannels::{bad_owner, some_held, subchannels};
+use subchannels::{no_owner, some_held, subchannels};
 
 // Refused, start leaves the cell of ARFCN 0.
 fn refuse_start(cell: &mut [u32; WORDS], refusal: Refusal) -> Result<(), Refusal>
@@ -133,7 +133,7 @@ pub fn close(cell: &mut [u32; WORDS], line: u32) -> Result<(), Refusal>
 fn owner_of_subchannel(cell: &[u32; WORDS], line: u32, s: u32, owner: u32) -> Result<u32, Refusal>
     ensures { outcome_of result ≡ subchannel_of (cell_of cell.now) line s owner }
 {
-    if (line > 63) | bad_owner(owner) {
+    if (line > 63) | no_owner(owner) {
         return Err(Refusal::OutOfRange);
     }
     let n = line as usize;

@@ -1,6 +1,7 @@
 // The subchannels of a line and their owners.
 ghost use Rattle.std.specs.Prelude.{◌≡◌};
-ghost use Rattle.rules.specs.Calls.{bad_owner, subchannels, some_held};
+ghost use Rattle.answers.specs.Ranges.{no_owner};
+ghost use Rattle.rules.specs.Calls.{subchannels, some_held};
 ghost use Rattle.rules.specs.State.{line_at};
 ghost use Rattle.storage.specs.Words.{cell_of};
 
@@ -8,8 +9,8 @@ use storage::{WORDS, owner_at};
 
 const LAST_OWNER: u32 = 65_535;
 
-pub(crate) fn bad_owner(owner: u32) -> bool
-    ensures { result ≡ bad_owner owner }
+pub(crate) fn no_owner(owner: u32) -> bool
+    ensures { result ≡ no_owner owner }
 {
     (owner == 0) | (owner > LAST_OWNER)
 }

@@ -4,12 +4,12 @@ use mathlib.Core.Path.{◌≡◌, refl, ap, ◌∙◌}
 use mathlib.Core.Bool.{true}
 use native.Mathlib.Omega.{arith}
 use native.Mathlib.Decide.{dec_lt}
-use borrow.Author.Tests.{le-ltb}
+use borrow.Author.Tests.{le-ltb, le-leb, lt-leb}
 use Rattle.answers.specs.Outcome.{Refused, refused, accepted, alone, ascending, ascending_from}
+use Rattle.answers.specs.Ranges.{hyperframe}
 use Rattle.answers.proofs.Decide.{stops, passes, accepts}
-use Rattle.answers.proofs.Tests.{le_not_ltb, lt_not_ltb}
 use Rattle.clock.specs.declared.Frame.{Frame}
-use Rattle.clock.specs.Clock.{hyperframe, T1, T2, T3, parts_of, number_of, split_causes, split_of, join_causes, join_of}
+use Rattle.clock.specs.Clock.{T1, T2, T3, parts_of, number_of, split_causes, split_of, join_causes, join_of}
 
 -- ---- on the numbers
 
@@ -35,7 +35,7 @@ module _ (t1 t2 t3 : ℕ) (h1 : t1 ≤ 2047) (h2 : t2 ≤ 25) (h3 : t3 ≤ 50) w
 -- ---- on the calls
 
 pub split_accepts : (fn : ℕ) → fn < hyperframe → split_of fn ≡ accepted (parts_of fn)
-split_accepts fn h = passes _ _ _ (lt_not_ltb _ _ h, tt) ∙ accepts _
+split_accepts fn h = passes _ _ _ (lt-leb hyperframe fn h, tt) ∙ accepts _
 
 pub join_accepts : (t1 t2 t3 : ℕ) → t1 ≤ 2047 → t2 ≤ 25 → t3 ≤ 50 → join_of t1 t2 t3 ≡ accepted (number_of t1 t2 t3)
 join_accepts t1 t2 t3 h1 h2 h3 = passes _ _ _ (le-ltb _ _ h1, (le-ltb _ _ h2, (le-ltb _ _ h3, tt))) ∙ accepts _
@@ -56,7 +56,7 @@ split_undoes_join t1 t2 t3 h1 h2 h3 =
 -- ---- what an answer shows
 
 pub split_refuses : (fn : ℕ) → hyperframe ≤ fn → split_of fn ≡ refused (alone 3)
-split_refuses fn h = stops _ _ _ 0 (le_not_ltb _ _ h)
+split_refuses fn h = stops _ _ _ 0 (le-leb hyperframe fn h)
 
 pub split_parts : (fn : ℕ) (f : Frame) → accepted f ≡ split_of fn → (fn < hyperframe) × (f ≡ parts_of fn)
 split_parts fn f e = go (dec_lt fn hyperframe)

@@ -1,12 +1,9 @@
 -- Document 01, "Frame clock (4.3.3, 3.3.2.2)". Assumes nothing.
-use Rattle.std.specs.Prelude.{ℕ, ◌+◌, ◌*◌, ◌-◌, ◌/◌, ◌%◌, not, cond, List, [], ◌∷◌, ltb, eqb}
+use Rattle.std.specs.Prelude.{ℕ, ◌+◌, ◌*◌, ◌-◌, ◌/◌, ◌%◌, cond, List, [], ◌∷◌, ltb, eqb}
 use Rattle.std.proofs.Math.Option.{Option, none, some}
 use Rattle.answers.specs.Outcome.{Outcome, Cause, cause, any_of, decide}
+use Rattle.answers.specs.Ranges.{no_fn}
 use Rattle.clock.specs.declared.Frame.{Frame}
-
--- "FN is 0 to 2,715,647 and returns to 0"
-abbrev pub hyperframe : ℕ
-hyperframe = 2715648
 
 -- "T1 = FN div 1326, T2 = FN mod 26, T3 = FN mod 51"
 abbrev pub T1 : ℕ → ℕ
@@ -29,9 +26,9 @@ prime_of t3 = cond (any_of (eqb t3 1 ∷ eqb t3 11 ∷ eqb t3 21 ∷ eqb t3 31 �
 abbrev pub number_of : ℕ → ℕ → ℕ → ℕ
 number_of t1 t2 t3 = 1326 * t1 + 51 * ((t3 + 26 - t2) % 26) + t3
 
--- 3 FN out of range
+-- "3 .. FN .. out of range"
 abbrev pub split_causes : ℕ → List Cause
-split_causes fn = cause 3 (not (ltb fn hyperframe) ∷ []) ∷ []
+split_causes fn = cause 3 (no_fn fn ∷ []) ∷ []
 
 abbrev pub split_of : ℕ → Outcome Frame
 split_of fn = decide (split_causes fn) (parts_of fn)

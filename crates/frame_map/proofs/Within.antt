@@ -4,10 +4,11 @@ use mathlib.Core.Path.{◌≡◌, refl, sym, ap, ◌∙◌}
 use mathlib.Core.Bool.{Bool, true, false, not}
 use mathlib.Core.List.{List}
 use native.Mathlib.Omega.{arith}
-use borrow.Author.Tests.{le-ltb}
+use borrow.Author.Tests.{le-ltb, lt-leb}
 use Rattle.std.specs.Prelude.{Result, Ok, Err}
 use Rattle.answers.specs.declared.Refusal.{Refusal}
 use Rattle.answers.specs.Outcome.{any_of, decide}
+use Rattle.answers.specs.Ranges.{hyperframe}
 use Rattle.answers.specs.Refusals.{outcome_of, outcome_by}
 use Rattle.answers.proofs.Decide.{first, none_holds, answered, decide_answered}
 use Rattle.maps.specs.Channels.{Standing}
@@ -23,9 +24,9 @@ abbrev bytes_of : List Standing → ℕ
 bytes_of xs = bytes (standing_numbers xs)
 
 module _ (c tn n d : ℕ) where
-  module _ (k : is_combination c ≡ true) (t : tn ≤ 7) (f : n ≤ 2715647) (u : d ≤ 1) where
+  module _ (k : is_combination c ≡ true) (t : tn ≤ 7) (f : n < hyperframe) (u : d ≤ 1) where
     none : any_of (out_of_range c tn n d) ≡ false
-    none = none_holds (out_of_range c tn n d) (ap not k, (le-ltb 7 tn t, (le-ltb 2715647 n f, (le-ltb 1 d u, tt))))
+    none = none_holds (out_of_range c tn n d) (ap not k, (le-ltb 7 tn t, (lt-leb hyperframe n f, (le-ltb 1 d u, tt))))
 
     pub control_bytes : 3 < c → bytes_of (standing (rows_of (4 + c % 4) 0 (d % 2)) n) ≡ bytes_of (standing (rows_of c tn d) n)
     control_bytes h =

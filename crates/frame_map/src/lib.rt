@@ -1,8 +1,9 @@
 // Which channel, subchannel, block and place a timeslot carries in each frame: document 01, "From frame to logical channel (6.4.1, clause 7)".
 #![tactic(auto)]
 
-ghost use Rattle.std.specs.Prelude.{◌≡◌, ◌≤◌, true};
+ghost use Rattle.std.specs.Prelude.{◌≡◌, ◌<◌, ◌≤◌, true};
 ghost use Rattle.answers.specs.Outcome.{decide};
+ghost use Rattle.answers.specs.Ranges.{hyperframe};
 ghost use Rattle.answers.specs.Refusals.{outcome_of, outcome_by};
 ghost use Rattle.maps.specs.Combinations.{is_combination, rows_of};
 ghost use Rattle.maps.specs.Map.{map_causes, map_of, carried};
@@ -29,7 +30,7 @@ pub fn is_combination(combination: u32) -> bool
 // The bytes of what stands in a frame.
 #[tactic(auto, using(crate::proofs::Within::control_bytes, crate::proofs::Within::traffic_bytes))]
 fn look_up(combination: u32, tn: u32, number: u32, direction: u32) -> u64
-    requires { (is_combination combination ≡ true) × (tn ≤ 7) × (number ≤ 2715647) × (direction ≤ 1) }
+    requires { (is_combination combination ≡ true) × (tn ≤ 7) × (number < hyperframe) × (direction ≤ 1) }
     ensures { result ≡ bytes (standing_numbers (standing (rows_of combination tn direction) number)) }
 {
     if combination > 3 {

@@ -8,14 +8,14 @@ use native.Mathlib.Omega.{arith}
 use native.Mathlib.Nat.{mod-lt}
 use lib.Dec.{eqb, lit<}
 use lib.ListN.{get_or}
-use borrow.Author.Tests.{eq-eqb, le-ltb, not-true}
+use borrow.Author.Tests.{eq-eqb, le-ltb, lt-leb, not-true}
 use Rattle.answers.specs.Outcome.{accepted}
+use Rattle.answers.specs.Ranges.{hyperframe}
 use Rattle.answers.specs.Search.{all_below}
 use Rattle.answers.proofs.Decide.{none_holds}
 use Rattle.answers.proofs.Search.{all_at}
 use Rattle.answers.proofs.Tables.{every, at_most}
 use Rattle.answers.proofs.Tests.{and_left, and_right}
-use Rattle.clock.specs.Clock.{hyperframe}
 use Rattle.maps.specs.declared.Kind.TheVariants.{Ccch}
 use Rattle.maps.specs.Channels.{Standing, at}
 use Rattle.maps.specs.Combinations.{uncombined, combined, additional, combinations, among, is_combination, rows_among, rows_of}
@@ -24,7 +24,7 @@ use Rattle.maps.specs.Rows.{numbered, each, from, standing}
 use Rattle.maps.proofs.Range.{accepted_map}
 use Rattle.maps.proofs.Repeat.{repeats, standing_mod}
 use Rattle.maps.proofs.Same.{same_all, all_same}
-use Rattle.groups.specs.Frames.{starts}
+use Rattle.groups.specs.Claims.{starts}
 use Rattle.groups.specs.Paging.{is_first, any_burst, begins, common_in}
 
 -- a block begins in one of a multiframe's 51 frames
@@ -120,5 +120,5 @@ module _ {m blocks : ℕ} (w : HasCcch m blocks) (tn b : ℕ) (h : b < blocks) (
 
     pub in_map : tn < 8 → f < hyperframe → map_of m tn f 0 ≡ accepted (at Ccch 0 b 0 ∷ [])
     in_map hn hf =
-        accepted_map m tn f 0 (none_holds (out_of_range m tn f 0) (known w, (le-ltb 7 tn (omega arith), (le-ltb 2715647 f (omega arith), (refl, tt)))))
+        accepted_map m tn f 0 (none_holds (out_of_range m tn f 0) (known w, (le-ltb 7 tn (omega arith), (lt-leb hyperframe f hf, (refl, tt)))))
         ∙ ap accepted stands_alone

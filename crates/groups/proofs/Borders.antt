@@ -1,15 +1,15 @@
 -- specs/Borders.antt computed; where a page is accepted, by the frames that its block waits. Assumes nothing.
 use Prim.Native.Nat.{ℕ, ◌<◌}
 use mathlib.Core.Path.{◌≡◌, refl, ap}
-use mathlib.Core.Bool.{true, not}
+use mathlib.Core.Bool.{true, false, not}
 use lib.Dec.{lit<}
 use Rattle.answers.specs.Outcome.{any_of, decide}
+use Rattle.answers.specs.Ranges.{hyperframe}
 use Rattle.answers.specs.Search.{all_below}
-use Rattle.clock.specs.Clock.{hyperframe}
 use Rattle.maps.specs.Combinations.{uncombined, combined, additional, combinations, rows_among}
 use Rattle.maps.specs.Rows.{numbered, standing}
 use Rattle.groups.specs.Paging.{Common, timeslot, block, any_burst, begins, is_paged, later, wait, block_for, paging_of}
-use Rattle.groups.specs.Borders.{lines, five, to, Borders}
+use Rattle.groups.specs.Borders.{given, lines, five, to, Borders}
 use Rattle.groups.proofs.FirstBlock.{given_wait}
 
 -- the phone's block begins d frames after FN, and not before
@@ -30,6 +30,10 @@ borders =
       no_imsi = refl;
       last_frame = waited (lines 1) 0 2715647 7 (lit< tt) refl refl;
       past_the_last = refl;
+      parameters = refl;
+      last_ag = (waited (given 1 false 7 2) 0 0 42 (lit< tt) refl refl, waited (given 1 false 7 9) 0 0 42 (lit< tt) refl refl);
+      misplaced = refl;
+      lowest = refl;
       no_line = refl;
       on_four = (
         waited (lines 4) 8 0 46 (lit< tt) refl refl,
@@ -60,5 +64,4 @@ borders =
         waited (lines 1) 0 2715553 101 (lit< tt) refl refl,
       );
       common_lines = refl;
-      no_block = refl;
     }

@@ -7,11 +7,12 @@ use native.Mathlib.Nat.{div-le_self}
 use native.Mathlib.Omega.{arith}
 use lib.ListN.{get_or}
 use borrow.Author.Tests.{not-true}
+use Rattle.answers.specs.Ranges.{hyperframe}
 use Rattle.answers.specs.Search.{all_below}
 use Rattle.answers.proofs.Search.{all_at, least_at, First, least_first}
 use Rattle.answers.proofs.Tests.{not_both}
-use Rattle.clock.specs.Clock.{hyperframe}
-use Rattle.groups.specs.Frames.{starts, is_hit}
+use Rattle.groups.specs.Claims.{starts}
+use Rattle.groups.specs.Helpers.{is_hit}
 use Rattle.groups.specs.Paging.{Common, A, n, G, block, is_paged, later, wait}
 use Rattle.groups.proofs.BlockFrames.{start_below}
 use Rattle.groups.proofs.FirstHit.{Lands, lands_least, multiframe, hit, hit_first}

@@ -8,11 +8,11 @@ use native.Mathlib.Nat.{mod-eq_of_lt}
 use native.Mathlib.Omega.{arith}
 use lib.Dec.{eqb}
 use borrow.Author.Tests.{eq-eqb, eqb-true}
+use Rattle.answers.specs.Ranges.{hyperframe}
 use Rattle.answers.specs.Search.{least}
 use Rattle.answers.proofs.Search.{First, least_first}
 use Rattle.answers.proofs.Tests.{and_left, and_right, and_both, refute}
-use Rattle.clock.specs.Clock.{hyperframe}
-use Rattle.groups.specs.Frames.{is_hit}
+use Rattle.groups.specs.Helpers.{is_hit}
 use Rattle.groups.specs.Paging.{later}
 use Rattle.groups.proofs.Remainders.{next, next_remainder, next_first}
 

@@ -7,14 +7,14 @@ use mathlib.Core.List.{[], ◌∷◌}
 use lib.Dec.{eqb}
 use lib.ListN.{get_or}
 use Rattle.answers.specs.Outcome.{accepted}
+use Rattle.answers.specs.Ranges.{hyperframe}
 use Rattle.answers.proofs.Tests.{and_right}
-use Rattle.clock.specs.Clock.{hyperframe}
 use Rattle.maps.specs.declared.Kind.TheVariants.{Ccch}
 use Rattle.maps.specs.Channels.{at}
 use Rattle.maps.specs.Combinations.{rows_of}
 use Rattle.maps.specs.Map.{map_of}
 use Rattle.maps.specs.Rows.{standing}
-use Rattle.groups.specs.Frames.{starts}
+use Rattle.groups.specs.Claims.{starts}
 use Rattle.groups.specs.Paging.{Common, n, timeslot, is_multiframe, block, begins, common_in, is_paged}
 use Rattle.groups.proofs.BlockFrames as blocks
 use Rattle.groups.proofs.Group.{block_below}

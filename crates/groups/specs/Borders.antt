@@ -1,16 +1,20 @@
 -- Both sides of each border of paging, with the exact answers or refusals; proofs/Borders.antt computes them. Assumes nothing.
-use Rattle.std.specs.Prelude.{ℕ, ◌≡◌, true, false, [], ◌∷◌, ◌++◌, map, replicate}
+use Rattle.std.specs.Prelude.{ℕ, ◌≡◌, Bool, true, false, [], ◌∷◌, ◌++◌, map, replicate}
 use Rattle.answers.specs.Outcome.{Outcome, refused, accepted, alone}
 use Rattle.groups.specs.declared.PagingBlock.{PagingBlock}
-use Rattle.groups.specs.Paging.{Common, common_in, block_for, paging_of}
+use Rattle.groups.specs.Paging.{Common, common_in, paging_of}
+
+-- K, whether a 5 is open, AG and P
+abbrev pub given : ℕ → Bool → ℕ → ℕ → Common
+given k combined ag p = record { K = k; combined = combined; AG = ag; P = p }
 
 -- K common lines of 4 and 6, AG 0 and P 2: A is 9, n is 18
 abbrev pub lines : ℕ → Common
-lines k = record { K = k; combined = false; AG = 0; P = 2 }
+lines k = given k false 0 2
 
 -- a line of combination 5 and P 2, by AG: n is 6, 4 and 2
 abbrev pub five : ℕ → Common
-five ag = record { K = 1; combined = true; AG = ag; P = 2 }
+five ag = given 1 true ag 2
 
 -- accepted, with TN, block and frame
 abbrev pub to : ℕ → ℕ → ℕ → Outcome PagingBlock
@@ -31,6 +35,15 @@ pub record Borders : Type 0 where
   -- "FN is 0 to 2,715,647": "3 .. FN .. out of range"
   pub last_frame : page (lines 1) 0 0 0 2715647 ≡ to 0 0 6
   pub past_the_last : page (lines 1) 0 0 0 2715648 ≡ refused (alone 3)
+  -- "2 .. AG or P out of range": AG 0 to 7, P 2 to 9
+  pub parameters : map (λ c. page c 0 0 0 2715648) (given 1 false 7 2 ∷ given 1 false 8 2 ∷ given 1 false 0 1 ∷ given 1 false 0 9 ∷ given 1 false 0 10 ∷ [])
+      ≡ refused (alone 3) ∷ refused (alone 2) ∷ refused (alone 2) ∷ refused (alone 3) ∷ refused (alone 2) ∷ []
+  pub last_ag : (page (given 1 false 7 2) 0 0 0 0 ≡ to 0 7 42) × (page (given 1 false 7 9) 0 0 0 0 ≡ to 0 7 42)
+  -- "8 common channel misplaced": a fifth line, a line beside a 5, a 5 with AG 3, and before 16
+  pub misplaced : map (λ c. page c 0 0 0 0) (lines 5 ∷ given 2 true 0 2 ∷ five 3 ∷ given 0 true 3 2 ∷ [])
+      ≡ refused (alone 8) ∷ refused (alone 8) ∷ refused (alone 8) ∷ refused (alone 8) ∷ []
+  -- the lowest number is given
+  pub lowest : page (given 5 false 8 10) 0 0 0 2715648 ∷ page (lines 5) 0 0 0 2715648 ∷ page (given 0 false 8 2) 0 0 0 0 ∷ [] ≡ refused (alone 2) ∷ refused (alone 3) ∷ refused (alone 2) ∷ []
   -- "16 paging with no common line open.", and 3 before it
   pub no_line : page (lines 0) 0 0 0 0 ∷ page (lines 0) 0 0 0 2715648 ∷ page (lines 0) 0 0 10 0 ∷ [] ≡ refused (alone 16) ∷ refused (alone 3) ∷ refused (alone 3) ∷ []
   -- "A = 9 − AG", "The TN is 2 × (r div n).", on the 4 and on each 6: the first and the last I of a TN
@@ -44,5 +57,3 @@ pub record Borders : Type 0 where
   pub at_or_after : (page (lines 1) 0 0 0 6 ≡ to 0 0 6) × (page (lines 1) 0 0 0 7 ≡ to 0 0 108) × (page (lines 1) 0 0 0 2715552 ≡ to 0 0 2715552) × (page (lines 1) 0 0 0 2715553 ≡ to 0 0 6)
   -- which combination the common line of a TN has: "4 and 5 need TN 0, 6 needs TN 2, 4 or 6"
   pub common_lines : common_in true 0 ∷ map (common_in false) (0 ∷ 2 ∷ 4 ∷ 6 ∷ []) ≡ 5 ∷ 4 ∷ 6 ∷ 6 ∷ 6 ∷ []
-  -- where AG leaves no block, the answer is 0 everywhere: no cell that the calls hand back has such a line
-  pub no_block : block_for (five 3) 0 0 ≡ record { tn = 0; block = 0; frame = 0 }

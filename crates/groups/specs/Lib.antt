@@ -1,4 +1,4 @@
 pub mod Paging
-pub mod Frames
+pub mod Helpers
 pub mod Borders
 pub mod Claims

@@ -1,8 +1,8 @@
 -- Document 01, "Paging (6.5.2, 6.5.3)", on plain numbers. Assumes nothing.
-use Rattle.std.specs.Prelude.{ℕ, ◌+◌, ◌-◌, ◌*◌, ◌/◌, ◌%◌, Bool, false, not, cond, ◌&&◌, ◌||◌, List, [], ◌∷◌, leb, eqb, length, get_or}
+use Rattle.std.specs.Prelude.{ℕ, ◌+◌, ◌-◌, ◌*◌, ◌/◌, ◌%◌, Bool, false, not, cond, ◌&&◌, ◌||◌, List, [], ◌∷◌, ltb, leb, eqb, length, get_or}
 use Rattle.answers.specs.Outcome.{Outcome, Cause, cause, decide}
+use Rattle.answers.specs.Ranges.{hyperframe, no_fn, no_ag, no_p}
 use Rattle.answers.specs.Search.{all_below, least}
-use Rattle.clock.specs.Clock.{hyperframe}
 use Rattle.maps.specs.declared.Kind.TheVariants.{Ccch}
 use Rattle.maps.specs.Channels.{Standing, kind_number}
 use Rattle.maps.specs.Rows.{standing}
@@ -25,7 +25,7 @@ pub record Common : Type 0 where
   pub AG : ℕ
   pub P : ℕ
 
--- "A = 9 − AG (3 − AG with a 5)"; 0 where AG is larger
+-- "A = 9 − AG (3 − AG with a 5)"
 abbrev pub A : Common → ℕ
 A c = cond c.combined 3 9 - c.AG
 
@@ -85,20 +85,34 @@ wait c i fn = least (λ d. is_paged c i (later fn d)) hyperframe 0
 
 -- ---- the answer
 
--- "TN, block and the first frame at or after FN". The calls hand back no cell with a common line whose n is 0; were there one, this would be 0
--- everywhere
+-- "the answer is TN, block and the first frame at or after FN"
 unfoldable pub block_for : Common → ℕ → ℕ → PagingBlock
-block_for c i fn =
-    cond (eqb (n c) 0) (record { tn = 0; block = 0; frame = 0 })
-    (record { tn = timeslot c i; block = block c i; frame = later fn (wait c i fn) })
+block_for c i fn = record { tn = timeslot c i; block = block c i; frame = later fn (wait c i fn) }
 
 -- "3 .. an IMSI that isn't 3 to 15 digits, each 0 to 9"
 abbrev pub is_imsi : List ℕ → Bool
 is_imsi digits = leb 3 (length digits) && (leb (length digits) 15 && all_below (λ k. leb (get_or digits k 0) 9) (length digits))
 
--- "3 .. FN .. out of range", "16 paging with no common line open"
+-- "5 needs AG ≤ 2"
+abbrev pub reserves_too_many : ℕ → Bool
+reserves_too_many ag = ltb 2 ag
+
+-- "8 common channel misplaced": at most four common lines, one in each of the timeslots of "4 and 5 need TN 0, 6 needs TN 2, 4 or 6"; "4 and 5 need no
+-- other open 4, 5 or 6"; "5 needs AG ≤ 2"
+abbrev pub misplaced_lines : Common → List Bool
+misplaced_lines c = ltb 4 c.K ∷ (c.combined && ltb 1 c.K) ∷ (c.combined && reserves_too_many c.AG) ∷ []
+
+-- "3 .. FN .. out of range, or an IMSI that isn't 3 to 15 digits, each 0 to 9."
+abbrev pub imsi_cause : List ℕ → ℕ → Cause
+imsi_cause digits fn = cause 3 (no_fn fn ∷ not (is_imsi digits) ∷ [])
+
+-- "16 paging with no common line open."
+abbrev pub no_line_cause : Common → Cause
+no_line_cause c = cause 16 (eqb c.K 0 ∷ [])
+
+-- "2 .. AG or P out of range": this and 8 refuse no page of a cell that the calls hand back, since start and open have refused what they name
 abbrev pub paging_causes : Common → List ℕ → ℕ → List Cause
-paging_causes c digits fn = cause 3 (leb hyperframe fn ∷ not (is_imsi digits) ∷ []) ∷ cause 16 (eqb c.K 0 ∷ []) ∷ []
+paging_causes c digits fn = cause 2 (no_ag c.AG ∷ no_p c.P ∷ []) ∷ imsi_cause digits fn ∷ cause 8 (misplaced_lines c) ∷ no_line_cause c ∷ []
 
 unfoldable pub paging_of : Common → List ℕ → ℕ → Outcome PagingBlock
 paging_of c digits fn = decide (paging_causes c digits fn) (block_for c (last_three digits) fn)

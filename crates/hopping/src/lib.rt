@@ -4,8 +4,9 @@
 mod sequence;
 
 ghost use Rattle.std.specs.Prelude.{◌≡◌};
+ghost use Rattle.answers.specs.Outcome.{decide};
 ghost use Rattle.answers.specs.Refusals.{outcome_of};
-ghost use Rattle.hops.specs.Hopping.{position_of, hop_of};
+ghost use Rattle.hops.specs.Hopping.{line_position, hopping_causes, position_of, hop_of};
 
 use answers::Refusal;
 use cell_allocation::{entry, is_allocation};
@@ -13,11 +14,10 @@ use clock::Frame;
 use masks::one_at_or_above;
 use select::position_at;
 
-// The position, in a cell allocation of this length, that a line with this mask, HSN and MAIO uses in frame FN. The numbers
-// come one by one: a struct of them would be taken apart at once, and nobody keeps one.
-#[tactic(auto, using(hops::proofs::Bits::count_ones, crate::proofs::Chosen::selected), unfolding(hops::specs::Hopping::position_of, answers::specs::Outcome::decide, answers::specs::Outcome::any_of))]
-pub fn position(length: u32, mask: u64, hsn: u32, maio: u32, number: u32) -> Result<u32, Refusal>
-    ensures { outcome_of result ≡ position_of length mask hsn maio number }
+// The position that a line with this mask, HSN and MAIO uses in frame FN, in a cell allocation whose length is known to be right.
+#[tactic(auto, using(hops::proofs::Bits::count_ones, crate::proofs::Chosen::selected), unfolding(answers::specs::Outcome::decide, answers::specs::Outcome::any_of))]
+fn hopped(length: u32, mask: u64, hsn: u32, maio: u32, number: u32) -> Result<u32, Refusal>
+    ensures { outcome_of result ≡ decide (hopping_causes length mask hsn maio number) (line_position mask hsn maio number) }
 {
     if hsn > 63 {
         return Err(Refusal::OutOfRange);
@@ -33,14 +33,26 @@ pub fn position(length: u32, mask: u64, hsn: u32, maio: u32, number: u32) -> Res
     Ok(position_at(mask, sequence::mai(n, hsn, maio, number, frame)))
 }
 
+// The same in a cell allocation of any length. The numbers come one by one: a struct of them would be taken apart at once, and
+// nobody keeps one.
+#[tactic(auto, unfolding(hops::specs::Hopping::position_of, answers::specs::Outcome::decide, answers::specs::Outcome::any_of))]
+pub fn position(length: u32, mask: u64, hsn: u32, maio: u32, number: u32) -> Result<u32, Refusal>
+    ensures { outcome_of result ≡ position_of length mask hsn maio number }
+{
+    match length {
+        1..=64 => hopped(length, mask, hsn, maio, number),
+        _ => Err(Refusal::CellAllocation),
+    }
+}
+
 // The ARFCN that a line with this mask, HSN and MAIO uses in frame FN of a cell with this allocation.
-#[tactic(auto, using(hops::proofs::Apart::at_most_64), unfolding(hops::specs::Hopping::hop_of, hops::specs::Hopping::position_of, answers::specs::Outcome::decide, answers::specs::Outcome::any_of))]
+#[tactic(auto, using(hops::proofs::Apart::at_most_64), unfolding(hops::specs::Hopping::hop_of, answers::specs::Outcome::decide, answers::specs::Outcome::any_of))]
 pub fn hop(ca: &[u16], mask: u64, hsn: u32, maio: u32, number: u32) -> Result<u32, Refusal>
     ensures { outcome_of result ≡ hop_of ca.now mask hsn maio number }
 {
     if !is_allocation(ca) {
         return Err(Refusal::CellAllocation);
     }
-    let p = position(ca.len() as u32, mask, hsn, maio, number)?;
+    let p = hopped(ca.len() as u32, mask, hsn, maio, number)?;
     Ok(entry(ca, p))
 }

@@ -1,7 +1,8 @@
 // The hopping sequence: MAI from N, HSN, MAIO and the frame.
 ghost use Rattle.std.specs.Prelude.{◌≡◌, ◌<◌, ◌≤◌, ◌+◌, ◌%◌};
+ghost use Rattle.answers.specs.Ranges.{hyperframe};
 ghost use Rattle.hops.specs.Hopping.{S, mai_of};
-ghost use Rattle.clock.specs.Clock.{parts_of, hyperframe};
+ghost use Rattle.clock.specs.Clock.{parts_of};
 
 use clock::Frame;
 

@@ -7,17 +7,18 @@ use mathlib.Core.Logic.{◌⊎◌, inl, inr, ⊎_elim}
 use native.Mathlib.Nat.{mod-lt, mod-eq_of_lt, mod-add-mod, add-mod_right, not-suc-le-zero, lt_trans, eq-or-lt_of_le, le_of_suc-le-suc}
 use native.Mathlib.Decide.{dec_lt}
 use native.Mathlib.Omega.{arith}
-use lib.Dec.{ltb, leb, eqb, eqb-suc-zero}
+use lib.Dec.{ltb, eqb, eqb-suc-zero}
 use lib.ListN.{length, get_or}
-use borrow.Author.Tests.{ltb-true, leb-true, eqb-true, eqb-false, eq-eqb, le-leb, not-true, not-false}
+use borrow.Author.Tests.{ltb-true, ltb-false, eqb-true, eqb-false, eq-eqb, not-true, not-false}
+use Rattle.answers.specs.Ranges.{no_arfcn, no_size}
 use Rattle.answers.proofs.Search.{all_at, any_at}
-use Rattle.answers.proofs.Tests.{and_left, and_right, and_both, and_rest, or_rest, not_both}
+use Rattle.answers.proofs.Tests.{and_left, and_right, and_both, and_rest, or_right, or_rest, not_both, refute, eqb_sym}
 use Rattle.clock.specs.Clock.{parts_of}
 use Rattle.hops.specs.Masks.{bit, contains, ones, ones_below, one_at_or_above, share_one}
 use Rattle.hops.specs.Allocation.{in_place, is_allocation, precedes}
 use Rattle.hops.specs.Hopping.{S, mai_of, line_position, line_arfcn}
 use Rattle.hops.specs.Clash.{Physical, clash}
-use Rattle.hops.proofs.Bits.{OneAt, position_one, bit_contains}
+use Rattle.hops.proofs.Bits.{OneAt, position_one, bit_contains, above_bit, share_sym}
 use Rattle.hops.proofs.Mai.{mai_lt, mai_cyclic, mai_random}
 
 -- ---- one line
@@ -29,7 +30,6 @@ module _ (m hsn maio fn : ℕ) (h : maio < ones m) where
 
   -- and below the cell allocation's length
   pub line_within : (n : ℕ) → one_at_or_above m n ≡ false → line_position m hsn maio fn < n
-  unfolding one_at_or_above
   line_within n a = go (dec_lt p n)
     where
       p : ℕ
@@ -37,10 +37,7 @@ module _ (m hsn maio fn : ℕ) (h : maio < ones m) where
 
       go : Dec (p < n) → p < n
       go (yes l) = l
-      go (no l) =
-          not_both
-          (any_at (λ (q : ℕ). leb n q && contains m q) 64 p line_one.below
-          (and_both (le-leb n p (omega arith)) (bit_contains m p line_one.one))) a
+      go (no l) = not_both (above_bit m n p (omega arith) line_one.one) a
 
 -- ---- one mask and HSN, two MAIOs
 
@@ -98,22 +95,25 @@ mask_apart m k hsn hsn' a b fn ha hb n e =
 -- ---- the cell allocation
 
 module _ (ca : List ℕ) (h : is_allocation ca ≡ true) where
-  pub at_most_64 : length ca ≤ 64
+  pub sized : no_size (length ca) ≡ false
   unfolding is_allocation
-  at_most_64 = leb-true _ _ (and_right (ltb 0 (length ca)) _ (and_left (ltb 0 (length ca) && leb (length ca) 64) _ h))
+  sized = not-true _ (and_left (not (no_size (length ca))) _ h)
+
+  pub at_most_64 : length ca ≤ 64
+  at_most_64 = ltb-false _ _ (refute (ltb 64 (length ca)) (λ t. not_both (or_right (eqb (length ca) 0) t) sized))
 
   placed : (k : ℕ) → k < length ca → in_place ca k ≡ true
   unfolding is_allocation
-  placed k l = all_at (in_place ca) (length ca) (and_right (ltb 0 (length ca) && leb (length ca) 64) _ h) k l
+  placed k l = all_at (in_place ca) (length ca) (and_right (not (no_size (length ca))) _ h) k l
 
   -- every entry is an ARFCN
   pub entry_arfcn : (k : ℕ) → k < length ca → get_or ca k 0 < 1024
-  entry_arfcn k l = ltb-true _ _ (and_left (ltb (get_or ca k 0) 1024) _ (placed k l))
+  entry_arfcn k l = let e = ltb-false _ _ (not-true _ (and_left (not (no_arfcn (get_or ca k 0))) _ (placed k l))) in omega arith
 
   next : (k : ℕ) → suc k < length ca → get_or ca k 0 < get_or ca (suc k) 0
   next k l =
       let order : precedes (get_or ca (suc k - 1) 0) (get_or ca (suc k) 0) ≡ true =
-      or_rest (eqb (suc k) 0) _ (eqb-suc-zero k) (and_right (ltb (get_or ca (suc k) 0) 1024) _ (placed (suc k) l)) in
+      or_rest (eqb (suc k) 0) _ (eqb-suc-zero k) (and_right (not (no_arfcn (get_or ca (suc k) 0))) _ (placed (suc k) l)) in
       subst (λ (i : ℕ). get_or ca i 0 < get_or ca (suc k) 0) (let e : suc k - 1 ≡ k = omega arith in e) (ltb-true _ _ order)
 
   pub ascends : (i j : ℕ) → i < j → j < length ca → get_or ca i 0 < get_or ca j 0
@@ -137,6 +137,17 @@ module _ (ca : List ℕ) (h : is_allocation ca ≡ true) where
 pub record Fit (ca : List ℕ) (v : Physical) : Type 0 where
   pub within : one_at_or_above v.mask (length ca) ≡ false
   pub maio_below : v.maio < ones v.mask
+
+-- whichever is named first
+pub clash_sym : (v w : Physical) → clash v w ≡ clash w v
+unfolding clash
+clash_sym v w =
+    let slots = eqb_sym v.tn w.tn in
+    let shared = share_sym v.mask w.mask in
+    let masks = eqb_sym v.mask w.mask in
+    let hsns = eqb_sym v.hsn w.hsn in
+    let maios = eqb_sym v.maio w.maio in
+    cc
 
 -- two lines of one timeslot that do not clash share no one, or differ in MAIO alone
 Parted : Physical → Physical → Type 0

@@ -1,20 +1,20 @@
 -- The laws of a mask's bits: counts of ones, and which words have one. Assumes nothing.
 use Prim.Native.Nat.{ℕ, zero, suc, ◌+◌, ◌*◌, ◌/◌, ◌%◌, ◌^◌, ◌-◌, ◌≤◌, ◌<◌, min}
-use mathlib.Core.Path.{◌≡◌, refl, sym, ap, ◌∙◌, subst}
+use mathlib.Core.Path.{◌≡◌, refl, sym, ap, ◌∙◌, subst, fun_ext}
 use mathlib.Core.Bool.{Bool, true, false, not, ◌&&◌}
 use mathlib.Core.Logic.{◌⊎◌, inl, inr, ⊎_elim}
-use native.Mathlib.Nat.{mod-lt, mul-mod_left, mod-one, mod-eq_of_lt, add-zero, add-suc, not-suc-le-zero, le_refl, zero-div, add-sub_of_le, sub-add_cancel, le_of_lt, div-eq_of_lt}
+use native.Mathlib.Nat.{mod-lt, mul-mod_left, mod-one, mod-eq_of_lt, add-zero, add-suc, not-suc-le-zero, le_refl, zero-div, zero-mul, add-sub_of_le, lt_of_lt_of_le, div-eq_of_lt, pow-suc}
 use native.Mathlib.Numerals.{one-add}
 use native.Mathlib.Omega.{arith}
 use native.Mathlib.Decide.{dec_lt}
 use lib.Bits.{bit_and, and_shr, and_step, and_lt}
 use lib.Count as Count
-use lib.Dec.{eqb, leb}
-use lib.Pow.{pow_pos, mod-pow-add, shl-shr, shr-shr, shr_lt}
+use lib.Dec.{eqb, leb, lit<}
+use lib.Pow.{pow_pos, pow_mono, split, mod-pow-add, shl-shr, shr-shr}
 use borrow.Author.Tests.{eq-eqb, ne_eqb, eqb-true, eqb-false, le-leb, lt-leb, leb-true}
 use Rattle.answers.specs.Search.{any_below}
 use Rattle.answers.proofs.Search.{any_at, any_none, least_at, First, first_or_none}
-use Rattle.answers.proofs.Tests.{and_both, and_left, and_right, not_both, refute}
+use Rattle.answers.proofs.Tests.{and_both, and_left, and_right, and_sym, not_both, refute}
 use Rattle.hops.specs.Masks.{bit, contains, ones_below, ones, position_at, one_at_or_above, share_one}
 
 one_is_not_zero : ◌≡◌ {A = ℕ} 1 0 → ⊥
@@ -204,36 +204,52 @@ share_and a b ha hb = go (eqb (bit_and a b) 0) refl
         let w = some_one (bit_and a b) 64 (and_lt 64 a b ha hb) (eqb-false _ _ e) in
         sym (any_at (λ p. contains a p && contains b p) 64 w.place w.below (one_both a b w.place (contains_bit (bit_and a b) w.place w.passes)))
 
+pub share_sym : (a b : ℕ) → share_one a b ≡ share_one b a
+unfolding share_one
+share_sym a b = ap (λ (test : ℕ → Bool). any_below test 64) (fun_ext (λ p. and_sym (contains a p) (contains b p)))
+
 -- ---- a one at or above a length
+
+-- something is left of a mask that is not below 2 ^ n
+rest_left : (m n : ℕ) → 2 ^ n ≤ m → m / 2 ^ n ≡ 0 → ⊥
+rest_left m n h e = let w = split m n in let l = mod-lt m (pow_pos n) in let z : m / 2 ^ n * 2 ^ n ≡ 0 = ap (λ (x : ℕ). x * 2 ^ n) e ∙ zero-mul (2 ^ n) in omega arith
+
+lt_pow : (k : ℕ) → k < 2 ^ k
+lt_pow zero = lit< tt
+lt_pow (suc k) = let h = lt_pow k in let e : 2 ^ suc k ≡ 2 ^ k * 2 = pow-suc 2 k in omega arith
 
 high_bit : (m n p : ℕ) → n ≤ p → bit m p ≡ bit (m / 2 ^ n) (p - n)
 high_bit m n p h = ap (λ (k : ℕ). bit m k) (sym (add-sub_of_le h)) ∙ bit_shift m n (p - n)
 
--- what is left of a mask without its lowest n bits is zero exactly if it has no one at or above n
+-- what is left of a mask without its lowest n bits is zero exactly if the mask is below 2 ^ n
 pub above_shift : (m n : ℕ) → m < 2 ^ 64 → n < 64 → not (eqb (m / 2 ^ n) 0) ≡ one_at_or_above m n
 unfolding one_at_or_above
-above_shift m n hm hn = go (eqb (m / 2 ^ n) 0) refl
+above_shift m n hm hn = go (dec_lt m (2 ^ n))
   where
-    go : (t : Bool) → eqb (m / 2 ^ n) 0 ≡ t → not t ≡ any_below (λ p. leb n p && contains m p) 64
-    go true e =
-        sym (any_none (λ p. leb n p && contains m p) 64 (λ p l.
-        refute (leb n p && contains m p) (λ h.
-        one_is_not_zero (sym (contains_bit m p (and_right (leb n p) (contains m p) h))
-        ∙ (high_bit m n p (leb-true _ _ (and_left (leb n p) (contains m p) h))
-        ∙ (ap (λ (k : ℕ). bit k (p - n)) (eqb-true _ _ e) ∙ zero_bit (p - n)))))))
-    go false e =
-        let room : m / 2 ^ n < 2 ^ (64 - n) = shr_lt (64 - n) n (subst (λ (k : ℕ). m < 2 ^ k) (sym (sub-add_cancel (le_of_lt hn))) hm) in
-        let w = some_one (m / 2 ^ n) (64 - n) room (eqb-false _ _ e) in
-        let k = w.place in
-        let here : bit m (n + k) ≡ 1 = bit_shift m n k ∙ contains_bit (m / 2 ^ n) k w.passes in
-        let b = w.below in
-        sym (any_at (λ p. leb n p && contains m p) 64 (n + k) (omega arith) (and_both (le-leb n (n + k) (omega arith)) (bit_contains m (n + k) here)))
+    go : Dec (m < 2 ^ n) → not (eqb (m / 2 ^ n) 0) ≡ leb (2 ^ n) m
+    go (yes l) = ap not (eq-eqb _ _ (div-eq_of_lt l)) ∙ sym (lt-leb _ _ l)
+    go (no l) = ap not (ne_eqb _ _ (rest_left m n (omega arith))) ∙ sym (le-leb _ _ (omega arith))
 
 -- a mask of 64 bits has no one at or above 64
-pub above_none : (m n : ℕ) → 64 ≤ n → one_at_or_above m n ≡ false
+pub above_none : (m n : ℕ) → m < 2 ^ 64 → 64 ≤ n → one_at_or_above m n ≡ false
 unfolding one_at_or_above
-above_none m n h =
-    any_none (λ p. leb n p && contains m p) 64 (λ p l. ap (λ (t : Bool). t && contains m p) (lt-leb n p (omega arith)))
+above_none m n h l = lt-leb _ _ (lt_of_lt_of_le h (pow_mono l))
+
+-- of masks of any length: exactly where some bit at or above n is one
+pub above_bit : (m n p : ℕ) → n ≤ p → bit m p ≡ 1 → one_at_or_above m n ≡ true
+unfolding one_at_or_above
+above_bit m n p l e = go (dec_lt m (2 ^ p))
+  where
+    go : Dec (m < 2 ^ p) → leb (2 ^ n) m ≡ true
+    go (yes h) = absurd (one_is_not_zero (sym e ∙ ap (λ (x : ℕ). x % 2) (div-eq_of_lt h)))
+    go (no h) = le-leb _ _ (let w : 2 ^ n ≤ 2 ^ p = pow_mono l in omega arith)
+
+pub bit_above : (m n : ℕ) → one_at_or_above m n ≡ true → (p : ℕ) × (n ≤ p) × (bit m p ≡ 1)
+unfolding one_at_or_above
+bit_above m n h =
+    let k = m / 2 ^ n in
+    let w = some_one k k (lt_pow k) (rest_left m n (leb-true _ _ h)) in
+    (n + w.place, (let z : n ≤ n + w.place = omega arith in z), bit_shift m n w.place ∙ contains_bit k w.place w.passes)
 
 pub bit_past : (m p : ℕ) → m < 2 ^ 64 → 64 ≤ p → bit m p ≡ 0
 bit_past m p hm h =

@@ -14,6 +14,7 @@ borders =
     record {
       allocation = refl;
       no_allocation = refl;
+      no_length = refl;
       ranges = refl;
       mask = refl;
       no_mask = refl;

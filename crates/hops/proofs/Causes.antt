@@ -6,9 +6,9 @@ use mathlib.Core.List.{List}
 use Rattle.answers.specs.Outcome.{ascending, ascending_from}
 use Rattle.hops.specs.Hopping.{position_causes, hop_causes}
 
-pub position_ascends : (length m hsn maio fn : ℕ) → ascending (position_causes length m hsn maio fn) ≡ true
+pub position_ascends : (size m hsn maio fn : ℕ) → ascending (position_causes size m hsn maio fn) ≡ true
 unfolding ascending_from
-position_ascends length m hsn maio fn = refl
+position_ascends size m hsn maio fn = refl
 
 pub hop_ascends : (ca : List ℕ) (m hsn maio fn : ℕ) → ascending (hop_causes ca m hsn maio fn) ≡ true
 unfolding ascending_from

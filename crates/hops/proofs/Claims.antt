@@ -15,11 +15,11 @@ use Rattle.answers.proofs.Decide.{fair_answer, passes, decide_answered, answered
 use Rattle.answers.proofs.Search.{all_at}
 use Rattle.hops.specs.Masks.{ones, one_at_or_above}
 use Rattle.hops.specs.Allocation.{is_allocation}
-use Rattle.hops.specs.Hopping.{rntable, line_position, line_arfcn, position_causes, position_of, hop_causes, hop_of}
+use Rattle.hops.specs.Hopping.{rntable, line_position, line_arfcn, hopping_causes, position_causes, position_of, hop_causes, hop_of}
 use Rattle.hops.specs.Clash.{Physical}
-use Rattle.hops.specs.Claims.{FairCalls, Apart, AtOne, Position, entry_at, ByPosition, Nbin, Rntable, Words}
-use Rattle.hops.proofs.Apart.{Fit, apart, line_one, line_within}
-use Rattle.hops.proofs.Bits.{count_ones, share_and, above_shift, bit_past}
+use Rattle.hops.specs.Claims.{FairCalls, Apart, AtOne, Position, entry_at, ByPosition, Nbin, Rntable, OneAtOrAbove, ClashIsSymmetric, Words}
+use Rattle.hops.proofs.Apart.{Fit, apart, sized, clash_sym, line_one, line_within}
+use Rattle.hops.proofs.Bits.{count_ones, share_and, above_shift, above_bit, bit_above, bit_past}
 use Rattle.hops.proofs.Causes.{position_ascends, hop_ascends}
 use Rattle.hops.proofs.Mai.{rn_le, index_lt, nbin_room, nbin_least, mai_lt}
 
@@ -27,14 +27,14 @@ pub fair_calls : FairCalls
 unfolding position_of hop_of
 fair_calls =
     record {
-      position = λ length m hsn maio fn. fair_answer _ (position_causes length m hsn maio fn) (position_ascends length m hsn maio fn);
-      hop = λ ca m hsn maio fn. fair_answer _ (hop_causes ca m hsn maio fn) (hop_ascends ca m hsn maio fn);
+      of_position = λ size m hsn maio fn. fair_answer _ (position_causes size m hsn maio fn) (position_ascends size m hsn maio fn);
+      of_hop = λ ca m hsn maio fn. fair_answer _ (hop_causes ca m hsn maio fn) (hop_ascends ca m hsn maio fn);
     }
 
 -- ---- what an accepted call shows
 
-module _ (length m hsn maio fn : ℕ) (free : NoCause (position_causes length m hsn maio fn)) where
-  within : one_at_or_above m length ≡ false
+module _ (size m hsn maio fn : ℕ) (free : NoCause (hopping_causes size m hsn maio fn)) where
+  within : one_at_or_above m size ≡ false
   within = free.1.0.1.0
 
   maio_below : maio < ones m
@@ -42,16 +42,16 @@ module _ (length m hsn maio fn : ℕ) (free : NoCause (position_causes length m 
 
 pub position : Position
 unfolding Position position_of
-position length m hsn maio fn p e =
-    let w = accepted_has_none (line_position m hsn maio fn) (position_causes length m hsn maio fn) p e in
-    let h = maio_below length m hsn maio fn w.1 in
+position size m hsn maio fn p e =
+    let w = accepted_has_none (line_position m hsn maio fn) (position_causes size m hsn maio fn) p e in
+    let h = maio_below size m hsn maio fn w.1.1 in
     let o = line_one m hsn maio fn h in
-    subst (AtOne length m hsn maio fn) w.0
+    subst (AtOne size m hsn maio fn) w.0
     (record {
       is_one = o.one;
       mai_ones_below = o.rank;
       mai_below_n = mai_lt (ones m) hsn maio fn (omega arith);
-      in_allocation = line_within m hsn maio fn h length (within length m hsn maio fn w.1);
+      in_allocation = line_within m hsn maio fn h size (within size m hsn maio fn w.1.1);
     })
 
 -- ---- two lines
@@ -82,9 +82,10 @@ entry_answered ca (accepted p) = refl
 pub by_position : ByPosition
 unfolding ByPosition hop_of position_of
 by_position ca m hsn maio fn h =
-    passes _ (position_causes (length ca) m hsn maio fn) (line_arfcn ca m hsn maio fn) (ap not h, tt)
+    passes _ (hopping_causes (length ca) m hsn maio fn) (line_arfcn ca m hsn maio fn) (ap not h, tt)
+    ∙ (sym (passes _ (hopping_causes (length ca) m hsn maio fn) (line_arfcn ca m hsn maio fn) (sized ca h, tt))
     ∙ (decide_answered (λ (p : ℕ). get_or ca p 0) (position_causes (length ca) m hsn maio fn) (line_position m hsn maio fn)
-    ∙ entry_answered ca (position_of (length ca) m hsn maio fn))
+    ∙ entry_answered ca (position_of (length ca) m hsn maio fn)))
 
 -- ---- NBIN and RNTABLE
 
@@ -120,3 +121,10 @@ table =
 
 pub words : Words
 words = record { count = count_ones; overlap = share_and; membership = bit_past; shifted = above_shift }
+
+pub one_at_or_above_size : OneAtOrAbove
+one_at_or_above_size = record { some_bit = bit_above; any_bit = above_bit }
+
+pub clash_is_symmetric : ClashIsSymmetric
+unfolding ClashIsSymmetric
+clash_is_symmetric = clash_sym

@@ -16,9 +16,9 @@ all_ones = 18446744073709551615
 abbrev pub highest_one : ℕ
 highest_one = 9223372036854775808
 
--- HSN 0 and MAIO 0, by the mask and CA's length
+-- HSN 0 and MAIO 0, by CA's length and the mask
 abbrev pub masked : ℕ → ℕ → Outcome ℕ
-masked length mask = position_of length mask 0 0 0
+masked size mask = position_of size mask 0 0 0
 
 -- CA and mask have 64 positions, and MAIO is 0
 abbrev pub hopped : ℕ → ℕ → Outcome ℕ
@@ -34,14 +34,17 @@ pub record Borders : Type 0 where
   -- "1 CA isn't as above."
   pub no_allocation : map (λ ca. hop_of ca 1 0 0 0) ([] ∷ (1024 ∷ []) ∷ (10 ∷ 1024 ∷ []) ∷ (20 ∷ 20 ∷ []) ∷ (10 ∷ 30 ∷ 20 ∷ []) ∷ arfcns 65 ∷ [])
       ≡ refused (alone 1) ∷ refused (alone 1) ∷ refused (alone 1) ∷ refused (alone 1) ∷ refused (alone 1) ∷ refused (alone 1) ∷ []
+  -- of `position`, which takes CA's length: 0 and 65, and before 3 to 5
+  pub no_length : masked 0 1 ∷ masked 1 1 ∷ masked 64 1 ∷ masked 65 1 ∷ position_of 0 0 64 64 2715648 ∷ position_of 65 0 64 64 2715648 ∷ []
+      ≡ refused (alone 1) ∷ accepted 0 ∷ accepted 0 ∷ refused (alone 1) ∷ refused (alone 1) ∷ refused (alone 1) ∷ []
   -- "HSN is 0 to 63", "FN is 0 to 2,715,647": "3 .. HSN, .. FN .. out of range"
   pub ranges : position_of 4 7 63 0 0 ∷ position_of 4 7 64 0 0 ∷ position_of 4 7 0 0 2715647 ∷ position_of 4 7 0 0 2715648 ∷ []
       ≡ accepted 0 ∷ refused (alone 3) ∷ accepted 2 ∷ refused (alone 3) ∷ []
   -- "A mobile allocation is a 64-bit mask; bit p (p = 0 is worth 1) stands for CA position p."
   pub mask : masked 1 1 ∷ masked 4 8 ∷ masked 64 highest_one ∷ [] ≡ accepted 0 ∷ accepted 3 ∷ accepted 63 ∷ []
-  -- "4 mask zero, or a one at or above CA's length."
-  pub no_mask : masked 4 0 ∷ masked 4 16 ∷ masked 4 24 ∷ masked 4 highest_one ∷ masked 63 highest_one ∷ masked 0 1 ∷ []
-      ≡ refused (alone 4) ∷ refused (alone 4) ∷ refused (alone 4) ∷ refused (alone 4) ∷ refused (alone 4) ∷ refused (alone 4) ∷ []
+  -- "4 mask zero, or a one at or above CA's length.": and above the 64 bits of a mask, at 2^64 and 2^64 + 1
+  pub no_mask : masked 4 0 ∷ masked 4 16 ∷ masked 4 24 ∷ masked 4 highest_one ∷ masked 63 highest_one ∷ masked 64 18446744073709551616 ∷ masked 4 18446744073709551617 ∷ []
+      ≡ refused (alone 4) ∷ refused (alone 4) ∷ refused (alone 4) ∷ refused (alone 4) ∷ refused (alone 4) ∷ refused (alone 4) ∷ refused (alone 4) ∷ []
   -- "N is the count of its ones, .. MAIO is 0 to N − 1."
   pub maio : position_of 4 7 0 2 0 ∷ position_of 4 8 0 0 0 ∷ position_of 64 all_ones 0 63 0 ∷ [] ≡ accepted 2 ∷ accepted 3 ∷ accepted 63 ∷ []
   -- "5 MAIO not below N."

@@ -9,8 +9,8 @@ use Rattle.hops.specs.Clash.{Physical, clash}
 
 -- "The lowest number that applies is given, and only if its condition holds."
 pub record FairCalls : Type 0 where
-  pub position : (length m hsn maio fn : ℕ) → FairAnswer (line_position m hsn maio fn) (position_causes length m hsn maio fn) (position_of length m hsn maio fn)
-  pub hop : (ca : List ℕ) (m hsn maio fn : ℕ) → FairAnswer (line_arfcn ca m hsn maio fn) (hop_causes ca m hsn maio fn) (hop_of ca m hsn maio fn)
+  pub of_position : (size m hsn maio fn : ℕ) → FairAnswer (line_position m hsn maio fn) (position_causes size m hsn maio fn) (position_of size m hsn maio fn)
+  pub of_hop : (ca : List ℕ) (m hsn maio fn : ℕ) → FairAnswer (line_arfcn ca m hsn maio fn) (hop_causes ca m hsn maio fn) (hop_of ca m hsn maio fn)
 
 -- what hop answers for a line of a cell with this CA
 abbrev pub arfcn_of : List ℕ → Physical → ℕ → Outcome ℕ
@@ -22,14 +22,14 @@ Apart = (ca : List ℕ) (v w : Physical) → v.tn ≡ w.tn → clash v w ≡ fal
     → (fn a b : ℕ) → arfcn_of ca v fn ≡ accepted a → arfcn_of ca w fn ≡ accepted b → a ≢ b
 
 -- "the mask's one bit that has MAI ones below it": the position that is answered is that bit, and CA has an entry there
-pub record AtOne (length m hsn maio fn p : ℕ) : Type 0 where
+pub record AtOne (size m hsn maio fn p : ℕ) : Type 0 where
   pub is_one : bit m p ≡ 1
   pub mai_ones_below : ones_below m p ≡ mai_of (ones m) hsn maio fn
   pub mai_below_n : mai_of (ones m) hsn maio fn < ones m
-  pub in_allocation : p < length
+  pub in_allocation : p < size
 
 unfoldable pub Position : Type 0
-Position = (length m hsn maio fn p : ℕ) → position_of length m hsn maio fn ≡ accepted p → AtOne length m hsn maio fn p
+Position = (size m hsn maio fn p : ℕ) → position_of size m hsn maio fn ≡ accepted p → AtOne size m hsn maio fn p
 
 -- the entry of CA at the position that is answered
 abbrev pub entry_at : List ℕ → Outcome ℕ → Outcome ℕ
@@ -52,6 +52,15 @@ pub record Rntable : Type 0 where
   pub none_twice : (i j : ℕ) → i < 114 → j < 114 → get_or rntable i 0 ≡ get_or rntable j 0 → i ≡ j
   -- "RNTABLE[(HSN xor (T1 mod 64)) + T3]" is one of them
   pub within : (hsn t1 t3 : ℕ) → hsn ≤ 63 → t3 ≤ 50 → bit_xor hsn (t1 % 64) + t3 < 114
+
+-- "a one at or above CA's length", of masks of any length: exactly then some bit at or above it is one
+pub record OneAtOrAbove : Type 0 where
+  pub some_bit : (m size : ℕ) → one_at_or_above m size ≡ true → (p : ℕ) × (size ≤ p) × (bit m p ≡ 1)
+  pub any_bit : (m size p : ℕ) → size ≤ p → bit m p ≡ 1 → one_at_or_above m size ≡ true
+
+-- "Two lines clash": whichever of them is named first
+unfoldable pub ClashIsSymmetric : Type 0
+ClashIsSymmetric = (v w : Physical) → clash v w ≡ clash w v
 
 -- "64-bit allocation masks are ANDed and shifted; overlap and membership are proved bit by bit", "Count of ones gives N": what these give
 -- of 64-bit words is what the definitions say bit by bit

@@ -2,11 +2,12 @@
 use Rattle.std.specs.Prelude.{ℕ, ◌+◌, ◌%◌, ◌^◌, not, cond, List, [], ◌∷◌, ltb, eqb, length, get_or}
 use Rattle.std.specs.Int.Bits.{bit_xor}
 use Rattle.answers.specs.Outcome.{Outcome, Cause, cause, decide}
+use Rattle.answers.specs.Ranges.{no_fn, no_hsn, no_size}
 use Rattle.answers.specs.Search.{least}
 use Rattle.clock.specs.declared.Frame.{Frame}
-use Rattle.clock.specs.Clock.{hyperframe, parts_of}
+use Rattle.clock.specs.Clock.{parts_of}
 use Rattle.hops.specs.Masks.{ones, position_at, one_at_or_above}
-use Rattle.hops.specs.Allocation.{is_allocation}
+use Rattle.hops.specs.Allocation.{allocation_cause}
 
 -- "RNTABLE, entries 0 to 113"
 unfoldable pub rntable : List ℕ
@@ -52,21 +53,28 @@ line_position m hsn maio fn = position_at m (mai_of (ones m) hsn maio fn)
 abbrev pub line_arfcn : List ℕ → ℕ → ℕ → ℕ → ℕ → ℕ
 line_arfcn ca m hsn maio fn = get_or ca (line_position m hsn maio fn) 0
 
--- 3 HSN (0 to 63) or FN out of range; 4 mask zero, or a one at or above CA's length; 5 MAIO not below N
+-- "4 mask zero, or a one at or above CA's length."
+abbrev pub mask_cause : ℕ → ℕ → Cause
+mask_cause size m = cause 4 (eqb m 0 ∷ one_at_or_above m size ∷ [])
+
+-- "5 MAIO not below N."
+abbrev pub maio_cause : ℕ → ℕ → Cause
+maio_cause m maio = cause 5 (not (ltb maio (ones m)) ∷ [])
+
+-- what a hop is refused for, beside CA, of which the length alone counts here: "3 .. HSN, .. FN .. out of range", 4 and 5
+abbrev pub hopping_causes : ℕ → ℕ → ℕ → ℕ → ℕ → List Cause
+hopping_causes size m hsn maio fn = cause 3 (no_hsn hsn ∷ no_fn fn ∷ []) ∷ mask_cause size m ∷ maio_cause m maio ∷ []
+
+-- the position in a cell allocation of so many ARFCNs; "1 CA isn't as above", if none has so many
 abbrev pub position_causes : ℕ → ℕ → ℕ → ℕ → ℕ → List Cause
-position_causes length m hsn maio fn =
-    cause 3 (not (ltb hsn 64) ∷ not (ltb fn hyperframe) ∷ [])
-    ∷ cause 4 (eqb m 0 ∷ one_at_or_above m length ∷ [])
-    ∷ cause 5 (not (ltb maio (ones m)) ∷ [])
-    ∷ []
+position_causes size m hsn maio fn = cause 1 (no_size size ∷ []) ∷ hopping_causes size m hsn maio fn
 
--- the position in a cell allocation of this length
 unfoldable pub position_of : ℕ → ℕ → ℕ → ℕ → ℕ → Outcome ℕ
-position_of length m hsn maio fn = decide (position_causes length m hsn maio fn) (line_position m hsn maio fn)
+position_of size m hsn maio fn = decide (position_causes size m hsn maio fn) (line_position m hsn maio fn)
 
--- 1 CA is not as above
+-- the ARFCN
 abbrev pub hop_causes : List ℕ → ℕ → ℕ → ℕ → ℕ → List Cause
-hop_causes ca m hsn maio fn = cause 1 (not (is_allocation ca) ∷ []) ∷ position_causes (length ca) m hsn maio fn
+hop_causes ca m hsn maio fn = allocation_cause ca ∷ hopping_causes (length ca) m hsn maio fn
 
 unfoldable pub hop_of : List ℕ → ℕ → ℕ → ℕ → ℕ → Outcome ℕ
 hop_of ca m hsn maio fn = decide (hop_causes ca m hsn maio fn) (line_arfcn ca m hsn maio fn)

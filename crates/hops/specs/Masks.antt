@@ -23,9 +23,10 @@ ones m = ones_below m 64
 unfoldable pub position_at : ℕ → ℕ → ℕ
 position_at m mai = least (λ p. contains m p && eqb (ones_below m p) mai) 64 64
 
--- "a one at or above CA's length"
+-- "a one at or above CA's length": the mask is no less than the lowest bit there is worth (`OneAtOrAbove` of Claims.antt: exactly then some bit there
+-- is one)
 unfoldable pub one_at_or_above : ℕ → ℕ → Bool
-one_at_or_above m length = any_below (λ p. leb length p && contains m p) 64
+one_at_or_above m size = leb (2 ^ size) m
 
 -- "the masks share a one"
 unfoldable pub share_one : ℕ → ℕ → Bool

@@ -13,7 +13,7 @@ unfolding decide any_of any_below least bits normal frequency_correction synchro
 borders =
     record {
       take_code_7 = refl;
-      codes = refl;
+      first_bits = refl;
       training_3 = refl;
       training_6 = refl;
       payload_read = refl;

@@ -34,8 +34,8 @@ pub fair_calls : FairCalls
 unfolding build_of build_normal_of take_of take_normal_of
 fair_calls =
     record {
-      build_normal = λ tsc payload burst. fair_call _ burst _ (build_normal_fair tsc payload burst);
-      take_normal = λ tsc burst payload. fair_call _ payload _ (take_normal_fair tsc burst payload);
-      build = λ row payload burst. fair_call _ burst _ (build_fair row payload burst);
-      take = λ row burst payload. fair_call _ payload _ (take_fair row burst payload);
+      of_build_normal = λ tsc payload burst. fair_call _ burst _ (build_normal_fair tsc payload burst);
+      of_take_normal = λ tsc burst payload. fair_call _ payload _ (take_normal_fair tsc burst payload);
+      of_build = λ row payload burst. fair_call _ burst _ (build_fair row payload burst);
+      of_take = λ row burst payload. fair_call _ payload _ (take_fair row burst payload);
     }

@@ -8,7 +8,7 @@ use native.Mathlib.Omega.{arith}
 use lib.ListN.{get_or}
 use lib.Pow.{mod-pow-add}
 use Rattle.answers.proofs.Tables.{every, at_most}
-use Rattle.layouts.specs.Layouts.{bits, codes, normal, synchronization, dummy, access}
+use Rattle.layouts.specs.Layouts.{bits, training_codes, normal, synchronization, dummy, access}
 use Rattle.layouts.specs.Rows.{row_of, built}
 use Rattle.layouts.specs.Claims.{value, Printed, Tails, StandardRows}
 use Rattle.layouts.proofs.Bits.{length_bits}
@@ -20,15 +20,15 @@ value_bits zero word = sym (mod-one word)
 value_bits (suc n) word = rw (length_bits n word, value_bits n word) (sym (ap (λ (k : ℕ). word % 2 ^ k) (sym (one-add n)) ∙ mod-pow-add word 1 n))
 
 -- every code fits 16 bits: one test over the table
-code_fits : (tsc : ℕ) → get_or codes tsc 0 % 2 ^ 16 ≡ get_or codes tsc 0
+code_fits : (tsc : ℕ) → get_or training_codes tsc 0 % 2 ^ 16 ≡ get_or training_codes tsc 0
 unfolding every
-code_fits tsc = mod-eq_of_lt (let h = at_most 65535 codes refl tsc in omega arith)
+code_fits tsc = mod-eq_of_lt (let h = at_most 65535 training_codes refl tsc in omega arith)
 
 pub printed : Printed
 unfolding row_of built bits normal synchronization dummy access value
 printed =
     record {
-      training = λ tsc payload. value_bits 16 (get_or codes tsc 0) ∙ code_fits tsc;
+      training = λ tsc payload. value_bits 16 (get_or training_codes tsc 0) ∙ code_fits tsc;
       repeat = λ tsc payload. refl;
       extended_training = λ payload. refl;
       synch_sequence = λ payload. refl;

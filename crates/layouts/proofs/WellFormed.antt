@@ -7,7 +7,7 @@ use mathlib.Core.Option.{some}
 use lib.ListN.{length}
 use borrow.Author.Tests.{eq-eqb, eqb-true, not-false}
 use Rattle.answers.specs.Outcome.{Refused}
-use Rattle.answers.specs.Claims.{None}
+use Rattle.answers.specs.Claims.{NoneHolds}
 use Rattle.layouts.specs.Rows.{Row, room}
 use Rattle.layouts.specs.Bursts.{Written, byte_above_one, malformed}
 
@@ -16,10 +16,10 @@ module _ (row : Row) (burst payload read : List ℕ) where
   abbrev pub WellFormed : Type 0
   WellFormed = (length burst ≡ length row) × (length payload ≡ room row) × (byte_above_one read ≡ false)
 
-  pub well_formed : None (malformed row burst payload read).conditions → WellFormed
+  pub well_formed : NoneHolds (malformed row burst payload read).conditions → WellFormed
   well_formed h = (eqb-true _ _ (not-false _ h.0), eqb-true _ _ (not-false _ h.1.0), h.1.1.0)
 
-  pub not_malformed : WellFormed → None (malformed row burst payload read).conditions
+  pub not_malformed : WellFormed → NoneHolds (malformed row burst payload read).conditions
   not_malformed h = (ap not (eq-eqb _ _ h.0), (ap not (eq-eqb _ _ h.1), (h.2, tt)))
 
 -- a refused call

@@ -48,7 +48,7 @@ pub record Borders : Type 0 where
   -- "TSC (training code) 0–7": the other side of 8
   pub take_code_7 : take_normal_of 7 (build_normal_of 7 (all 1 116) (all 0 148)).bytes (all 0 116) ≡ done (all 1 116)
   -- "their first 16 bits, first bit highest, hexadecimal", of bursts that are built
-  pub codes : map (λ tsc. value (from 61 16 (build_normal_of tsc (all 0 116) (all 0 148)).bytes)) (0 ∷ 1 ∷ 2 ∷ 3 ∷ 4 ∷ 5 ∷ 6 ∷ 7 ∷ [])
+  pub first_bits : map (λ tsc. value (from 61 16 (build_normal_of tsc (all 0 116) (all 0 148)).bytes)) (0 ∷ 1 ∷ 2 ∷ 3 ∷ 4 ∷ 5 ∷ 6 ∷ 7 ∷ [])
       ≡ 0x25C2 ∷ 0x2DDE ∷ 0x43BA ∷ 0x47B4 ∷ 0x1AE4 ∷ 0x4EB0 ∷ 0xA7D8 ∷ 0xEF12 ∷ []
   -- "Bits 16–25 repeat bits 0–9.": the two training codes that are damaged in source document 001
   pub training_3 : training 3 ≡ 0 ∷ 1 ∷ 0 ∷ 0 ∷ 0 ∷ 1 ∷ 1 ∷ 1 ∷ 1 ∷ 0 ∷ 1 ∷ 1 ∷ 0 ∷ 1 ∷ 0 ∷ 0 ∷ 0 ∷ 1 ∷ 0 ∷ 0 ∷ 0 ∷ 1 ∷ 1 ∷ 1 ∷ 1 ∷ 0 ∷ []

@@ -3,6 +3,7 @@ use Rattle.std.specs.Prelude.{ℕ, Bool, not, List, [], ◌∷◌, Result, ltb, 
 use Rattle.std.proofs.Math.Option.{Option, none, some}
 use Rattle.answers.specs.declared.Refusal.{Refusal}
 use Rattle.answers.specs.Outcome.{Refused, Outcome, refused, accepted, Cause, cause, decide}
+use Rattle.answers.specs.Ranges.{no_tsc}
 use Rattle.answers.specs.Refusals.{refusal_in}
 use Rattle.answers.specs.Search.{any_below, least}
 use Rattle.layouts.specs.Layouts.{normal, frequency_correction, synchronization, dummy, access}
@@ -40,9 +41,9 @@ abbrev pub fixed_bit : Row → List ℕ → Cause
 fixed_bit row burst =
     record { refusal = record { number = 15; values = least (differs row burst) (length row) 0 ∷ [] }; conditions = any_below (differs row burst) (length row) ∷ [] }
 
--- "3 .. TSC .. out of range" ("TSC (training code) 0–7")
+-- "3 .. TSC .. out of range"
 abbrev pub no_code : ℕ → Cause
-no_code tsc = cause 3 (ltb 7 tsc ∷ [])
+no_code tsc = cause 3 (no_tsc tsc ∷ [])
 
 -- the row of a normal burst, or the refusal of its TSC
 abbrev pub normal_of : ℕ → Outcome Row

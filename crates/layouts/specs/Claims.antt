@@ -5,7 +5,7 @@ use mathlib.Core.List.{Memᴰ}
 use Rattle.answers.specs.Outcome.{Refused, Cause, any_of}
 use Rattle.answers.specs.Claims.{Caused, NoCause}
 use Rattle.answers.specs.declared.Refusal.{Refusal}
-use Rattle.layouts.specs.Layouts.{codes, training, normal, frequency_correction, synchronization, dummy, access}
+use Rattle.layouts.specs.Layouts.{training_codes, training, normal, frequency_correction, synchronization, dummy, access}
 use Rattle.layouts.specs.Rows.{Row, row_of, room, built, taken, differs}
 use Rattle.layouts.specs.Bursts.{Written, wrote, no_code, build_causes, take_causes, build_of, take_of, build_normal_of, take_normal_of, build_synchronization_of, take_synchronization_of, build_access_of, take_access_of}
 
@@ -21,17 +21,17 @@ Call = List ℕ → List ℕ → Written
 
 -- whatever was lent: the burst that build wrote is taken apart into the payload that it was built of, and the payload that take wrote is built
 -- into the burst that it was taken from
-pub record UndoEachOther (build take : Call) : Type 0 where
-  pub take_undoes_build : (payload burst lent : List ℕ) → (build payload burst).refusal ≡ none → length lent ≡ length payload
-      → take (build payload burst).bytes lent ≡ done payload
-  pub build_undoes_take : (burst payload lent : List ℕ) → (take burst payload).refusal ≡ none → length lent ≡ length burst
-      → build (take burst payload).bytes lent ≡ done burst
+pub record UndoEachOther (building taking : Call) : Type 0 where
+  pub take_undoes_build : (payload burst lent : List ℕ) → (building payload burst).refusal ≡ none → length lent ≡ length payload
+      → taking (building payload burst).bytes lent ≡ done payload
+  pub build_undoes_take : (burst payload lent : List ℕ) → (taking burst payload).refusal ≡ none → length lent ≡ length burst
+      → building (taking burst payload).bytes lent ≡ done burst
 
 -- the same of the code, by its promises: r and s are the answers of two calls, one after the other, and the bytes are what those left
-pub record UndoEachOtherByCode (build take : Call) : Type 0 where
-  pub take_undoes_build : (payload before burst lent after : List ℕ) (r s : Result Unit Refusal) → wrote r burst ≡ build payload before → wrote s after ≡ take burst lent
+pub record UndoEachOtherByCode (building taking : Call) : Type 0 where
+  pub take_undoes_build : (payload before burst lent after : List ℕ) (r s : Result Unit Refusal) → wrote r burst ≡ building payload before → wrote s after ≡ taking burst lent
       → r ≡ Ok tt → length lent ≡ length payload → (s ≡ Ok tt) × (after ≡ payload)
-  pub build_undoes_take : (burst before payload lent after : List ℕ) (r s : Result Unit Refusal) → wrote r payload ≡ take burst before → wrote s after ≡ build payload lent
+  pub build_undoes_take : (burst before payload lent after : List ℕ) (r s : Result Unit Refusal) → wrote r payload ≡ taking burst before → wrote s after ≡ building payload lent
       → r ≡ Ok tt → length lent ≡ length burst → (s ≡ Ok tt) × (after ≡ burst)
 
 pub record RoundTrips : Type 0 where
@@ -39,15 +39,15 @@ pub record RoundTrips : Type 0 where
   pub synchronization : UndoEachOther build_synchronization_of take_synchronization_of
   pub access : UndoEachOther build_access_of take_access_of
   -- and so of the code, for any two calls of which it holds
-  pub by_code : (build take : Call) → UndoEachOther build take → UndoEachOtherByCode build take
+  pub by_code : (building taking : Call) → UndoEachOther building taking → UndoEachOtherByCode building taking
 
 -- ---- "15 a fixed bit differs, with its lowest bit number"
 
 -- of a take that is refused with 15, and of one that is accepted
-pub record FixedBits (row : Row) (take : Call) : Type 0 where
-  pub lowest : (burst payload : List ℕ) (r : Refused) → (take burst payload).refusal ≡ some r → r.number ≡ 15
+pub record FixedBits (row : Row) (taking : Call) : Type 0 where
+  pub lowest : (burst payload : List ℕ) (r : Refused) → (taking burst payload).refusal ≡ some r → r.number ≡ 15
       → (n : ℕ) × (r.values ≡ n ∷ []) × (n < length row) × (differs row burst n ≡ true) × ((k : ℕ) → k < n → differs row burst k ≡ false)
-  pub none_differs : (burst payload : List ℕ) → (take burst payload).refusal ≡ none → (k : ℕ) → differs row burst k ≡ false
+  pub none_differs : (burst payload : List ℕ) → (taking burst payload).refusal ≡ none → (k : ℕ) → differs row burst k ≡ false
 
 pub record AllFixedBits : Type 0 where
   pub normal : (tsc : ℕ) → FixedBits (row_of (normal tsc)) (take_normal_of tsc)
@@ -66,22 +66,22 @@ pub record FairCall (causes : List Cause) (lent answer : List ℕ) (w : Written)
   pub as_answered : w.refusal ≡ none → w.bytes ≡ answer
 
 pub record FairCalls : Type 0 where
-  pub build_normal : (tsc : ℕ) (payload burst : List ℕ)
+  pub of_build_normal : (tsc : ℕ) (payload burst : List ℕ)
       → FairCall (no_code tsc ∷ build_causes (row_of (normal tsc)) payload burst) burst (built (row_of (normal tsc)) payload) (build_normal_of tsc payload burst)
-  pub take_normal : (tsc : ℕ) (burst payload : List ℕ)
+  pub of_take_normal : (tsc : ℕ) (burst payload : List ℕ)
       → FairCall (no_code tsc ∷ take_causes (row_of (normal tsc)) burst payload) payload (taken (row_of (normal tsc)) burst) (take_normal_of tsc burst payload)
   -- the other bursts
-  pub build : (row : Row) (payload burst : List ℕ) → FairCall (build_causes row payload burst) burst (built row payload) (build_of row payload burst)
-  pub take : (row : Row) (burst payload : List ℕ) → FairCall (take_causes row burst payload) payload (taken row burst) (take_of row burst payload)
+  pub of_build : (row : Row) (payload burst : List ℕ) → FairCall (build_causes row payload burst) burst (built row payload) (build_of row payload burst)
+  pub of_take : (row : Row) (burst payload : List ℕ) → FairCall (take_causes row burst payload) payload (taken row burst) (take_of row burst payload)
 
 -- ---- every burst has its length, and every payload its count
 
-pub record Sizes (row : Row) (size count : ℕ) (build take : Call) : Type 0 where
+pub record Sizes (row : Row) (size count : ℕ) (building taking : Call) : Type 0 where
   pub bits : length row ≡ size
   pub payload_bits : room row ≡ count
   -- what an accepted call has written
-  pub burst : (payload lent : List ℕ) → (build payload lent).refusal ≡ none → length (build payload lent).bytes ≡ size
-  pub payload : (burst lent : List ℕ) → (take burst lent).refusal ≡ none → length (take burst lent).bytes ≡ count
+  pub burst : (payload lent : List ℕ) → (building payload lent).refusal ≡ none → length (building payload lent).bytes ≡ size
+  pub payload : (burst lent : List ℕ) → (taking burst lent).refusal ≡ none → length (taking burst lent).bytes ≡ count
 
 -- "148 bits .. for normal (116 payload bits, by TSC) and synchronization (78); access has 88 bits (36). Frequency correction and dummy .."
 pub record AllSizes : Type 0 where
@@ -104,7 +104,7 @@ from a n burst = take n (drop a burst)
 
 -- what stands in every burst that is built, whatever its payload, by the bit numbers of clause 5.2
 pub record Printed : Type 0 where
-  pub training : (tsc : ℕ) (payload : List ℕ) → value (from 61 16 (built (row_of (normal tsc)) payload)) ≡ get_or codes tsc 0
+  pub training : (tsc : ℕ) (payload : List ℕ) → value (from 61 16 (built (row_of (normal tsc)) payload)) ≡ get_or training_codes tsc 0
   pub repeat : (tsc : ℕ) (payload : List ℕ) → from 77 10 (built (row_of (normal tsc)) payload) ≡ from 61 10 (built (row_of (normal tsc)) payload)
   pub extended_training : (payload : List ℕ) → value (from 42 64 (built (row_of synchronization) payload)) ≡ 0xB962040F2D45761B
   pub synch_sequence : (payload : List ℕ) → value (from 8 40 (built (row_of access) payload)) ≡ 0x4B7F99AA3C

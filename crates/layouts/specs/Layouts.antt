@@ -16,12 +16,12 @@ abbrev pub tail : Field
 tail = Fixed (0 ∷ 0 ∷ 0 ∷ [])
 
 -- the training codes: "their first 16 bits, first bit highest, hexadecimal"
-abbrev pub codes : List ℕ
-codes = 0x25C2 ∷ 0x2DDE ∷ 0x43BA ∷ 0x47B4 ∷ 0x1AE4 ∷ 0x4EB0 ∷ 0xA7D8 ∷ 0xEF12 ∷ []
+abbrev pub training_codes : List ℕ
+training_codes = 0x25C2 ∷ 0x2DDE ∷ 0x43BA ∷ 0x47B4 ∷ 0x1AE4 ∷ 0x4EB0 ∷ 0xA7D8 ∷ 0xEF12 ∷ []
 
 -- "Bits 16–25 repeat bits 0–9."
 abbrev pub training : ℕ → List ℕ
-training tsc = bits 16 (get_or codes tsc 0) ++ take 10 (bits 16 (get_or codes tsc 0))
+training tsc = bits 16 (get_or training_codes tsc 0) ++ take 10 (bits 16 (get_or training_codes tsc 0))
 
 -- 5.2.3: tail bits, encrypted bits e0 to e57, training sequence bits, encrypted bits e58 to e115, tail bits
 unfoldable pub normal : ℕ → List Field

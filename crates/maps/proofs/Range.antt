@@ -5,8 +5,9 @@ use mathlib.Core.List.{List}
 use mathlib.Core.Bool.{Bool, true, false, not}
 use native.Mathlib.Omega.{arith}
 use lib.Dec.{ltb}
-use borrow.Author.Tests.{ne_eqb, ltb-true, ltb-false}
+use borrow.Author.Tests.{ne_eqb, ltb-true, ltb-false, leb-false}
 use Rattle.answers.specs.Outcome.{Outcome, alone, refused, accepted, any_of}
+use Rattle.answers.specs.Ranges.{hyperframe, no_fn, no_tn, no_direction}
 use Rattle.answers.proofs.Decide.{holds_none, first, rest, accepts}
 use Rattle.answers.proofs.Tests.{refute, not_both}
 use Rattle.maps.specs.Channels.{Standing}
@@ -38,7 +39,7 @@ combination_below c e = let h = ltb-false 7 c (refute (ltb 7 c) (λ t. not_both 
 
 module _ (c tn n d : ℕ) where
   module _ (e : any_of (out_of_range c tn n d) ≡ false) where
-    none : (not (is_combination c) ≡ false) × ((ltb 7 tn ≡ false) × ((ltb 2715647 n ≡ false) × ((ltb 1 d ≡ false) × Unit {0})))
+    none : (not (is_combination c) ≡ false) × ((no_tn tn ≡ false) × ((no_fn n ≡ false) × ((no_direction d ≡ false) × Unit {0})))
     none = holds_none (out_of_range c tn n d) e
 
     pub combination_range : (0 < c) × (c < 8) × (c ≡ 3 → ⊥)
@@ -46,10 +47,10 @@ module _ (c tn n d : ℕ) where
         let z : c ≡ 0 → ⊥ = λ q. not_both (combination_zero c q) none.0 in
         (omega (arith, z), combination_below c none.0, λ q. not_both (combination_three c q) none.0)
 
-    pub other_ranges : (tn < 8) × (n < 2715648) × (d < 2)
+    pub other_ranges : (tn < 8) × (n < hyperframe) × (d < 2)
     other_ranges =
         let a = ltb-false 7 tn none.1.0 in
-        let b = ltb-false 2715647 n none.1.1.0 in
+        let b = leb-false hyperframe n none.1.1.0 in
         let f = ltb-false 1 d none.1.1.1.0 in
         (omega (arith, a), omega (arith, b), omega (arith, f))
 

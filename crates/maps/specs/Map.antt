@@ -1,6 +1,7 @@
 -- The frame map: what stands in a frame, and when the question is refused. Assumes nothing.
-use Rattle.std.specs.Prelude.{ℕ, Bool, not, List, [], ◌∷◌, ltb}
+use Rattle.std.specs.Prelude.{ℕ, Bool, not, List, [], ◌∷◌}
 use Rattle.answers.specs.Outcome.{Outcome, Cause, cause, decide}
+use Rattle.answers.specs.Ranges.{no_tn, no_fn, no_direction}
 use Rattle.maps.specs.declared.Blocks.{Blocks}
 use Rattle.maps.specs.declared.Blocks.TheVariants.{One, Two}
 use Rattle.maps.specs.declared.Content.{Content}
@@ -10,9 +11,9 @@ use Rattle.maps.specs.Channels.{Standing, at}
 use Rattle.maps.specs.Rows.{standing}
 use Rattle.maps.specs.Combinations.{is_combination, rows_of}
 
--- "3 .. TN, .. combination, .. FN, direction (0 D, 1 U) .. out of range"; "TN, the timeslot, is 0 to 7", "FN is 0 to 2,715,647"
+-- "3 .. TN, .. combination, .. FN, direction (0 D, 1 U) .. out of range"
 abbrev pub out_of_range : ℕ → ℕ → ℕ → ℕ → List Bool
-out_of_range combination tn fn direction = not (is_combination combination) ∷ ltb 7 tn ∷ ltb 2715647 fn ∷ ltb 1 direction ∷ []
+out_of_range combination tn fn direction = not (is_combination combination) ∷ no_tn tn ∷ no_fn fn ∷ no_direction direction ∷ []
 
 abbrev pub map_causes : ℕ → ℕ → ℕ → ℕ → List Cause
 map_causes combination tn fn direction = cause 3 (out_of_range combination tn fn direction) ∷ []

@@ -1,5 +1,5 @@
 -- What the code's answers say. Assumes nothing.
-use Rattle.std.specs.Prelude.{ℕ, Result}
+use Rattle.std.specs.Prelude.{Result}
 use Rattle.std.specs.Prelude.{Option as MayBe}
 use Rattle.std.proofs.Math.Option.{Option}
 use Rattle.answers.specs.Outcome.{Outcome}
@@ -21,7 +21,3 @@ match_in f = record { line = f.line; slot = slot_in f.on_air }
 
 abbrev pub sought : Result (MayBe Found) Refusal → Outcome (Option Match)
 sought = outcome_by (option_by match_in)
-
--- the line that is named
-abbrev pub line_sought : Result (MayBe Found) Refusal → Outcome (Option ℕ)
-line_sought = outcome_by (option_by (λ f. f.line))

@@ -7,9 +7,9 @@ mod seek;
 ghost use Rattle.std.specs.Prelude.{◌≡◌};
 ghost use Rattle.answers.specs.Refusals.{outcome_by};
 ghost use Rattle.rules.specs.OnAir.{line_of};
-ghost use Rattle.rules.specs.Who.{who_of, line_found};
+ghost use Rattle.rules.specs.Who.{who_of};
 ghost use Rattle.storage.specs.Words.{cell_of};
-ghost use Rattle.onair.specs.Told.{slot_in, sought, line_sought};
+ghost use Rattle.onair.specs.Told.{slot_in, sought};
 
 use air::on_air;
 use answers::Refusal;
@@ -42,8 +42,7 @@ pub fn who(
     number: u32,
     direction: u32,
 ) -> Result<Option<Found>, Refusal>
-    ensures matched { sought result ≡ who_of (cell_of cell.now) tn arfcn number direction }
-    ensures line { line_sought result ≡ line_found (who_of (cell_of cell.now) tn arfcn number direction) }
+    ensures { sought result ≡ who_of (cell_of cell.now) tn arfcn number direction }
 {
     if (tn > 7) | ((arfcn > 1023) | ((number >= Frame::HYPERFRAME) | (direction > 1))) {
         return Err(Refusal::OutOfRange);

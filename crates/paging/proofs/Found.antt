@@ -2,8 +2,8 @@
 use Prim.Native.Nat.{ℕ, ◌+◌, ◌*◌, ◌≤◌, ◌<◌}
 use mathlib.Core.Path.{◌≡◌}
 use native.Mathlib.Omega.{arith}
-use Rattle.clock.specs.Clock.{hyperframe}
-use Rattle.groups.specs.Frames.{is_hit}
+use Rattle.answers.specs.Ranges.{hyperframe}
+use Rattle.groups.specs.Helpers.{is_hit}
 use Rattle.groups.proofs.FirstHit.{multiframe, Lands, lands_least, hit_next, hit_past}
 use Rattle.paging.specs.Helpers.{first_hit}
 

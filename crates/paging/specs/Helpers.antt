@@ -1,8 +1,8 @@
 -- What the helpers of the code compute. No part of what is promised to a caller. Assumes nothing.
 use Rattle.std.specs.Prelude.{ℕ}
+use Rattle.answers.specs.Ranges.{hyperframe}
 use Rattle.answers.specs.Search.{least}
-use Rattle.clock.specs.Clock.{hyperframe}
-use Rattle.groups.specs.Frames.{is_hit}
+use Rattle.groups.specs.Helpers.{is_hit}
 use Rattle.groups.specs.Paging.{later}
 
 -- the first frame at or after FN, past the turn to 0 too, that is frame s of a multiframe with the remainder t by p

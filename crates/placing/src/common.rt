@@ -9,7 +9,7 @@ ghost use Rattle.placing.specs.Helpers.{Finds};
 
 use masks::contains;
 use rules::Values;
-use storage::{WORDS, entry, parameters, values_at};
+use storage::{WORDS, entry, length, parameters, values_at};
 
 fn is_common_combination(combination: u32) -> bool
     ensures { result ≡ is_common_combination combination }
@@ -25,12 +25,12 @@ fn any_line<F: Fn(Values) -> bool>(cell: &[u32; WORDS], test: F) -> bool
     (0..64).any(|n| test(values_at(cell, n)))
 }
 
-// Some one of the mask stands for C0.
+// Some one of the mask stands for C0. No more than 64 positions are looked at, whatever length the words have.
 fn has_c0(cell: &[u32; WORDS], mask: u64) -> bool
     ensures { result ≡ has_c0 (cell_of cell.now) mask }
 {
     let c0 = parameters(cell).c0;
-    (0..64).any(|p| contains(mask, p) & (entry(cell, p) == c0))
+    (0..length(cell).min(64)).any(|p| contains(mask, p) & (entry(cell, p) == c0))
 }
 
 // The mask has C0 alone.

@@ -6,7 +6,8 @@ use mathlib.Core.List.{List, ◌∷◌}
 use mathlib.Core.Option.{Option, some}
 use lib.Dec.{eqb}
 use lib.ListN.{set}
-use Rattle.rules.specs.State.{Cell, LineState, Values, tabulate, line_count, owner_room, line_with, free, closed_line, line_at}
+use Rattle.answers.specs.Ranges.{line_count}
+use Rattle.rules.specs.State.{Cell, LineState, Values, tabulate, owner_room, line_with, free, closed_line, line_at}
 use Rattle.rules.specs.Calls.{with_line, with_owner}
 use Rattle.rules.specs.History.{Call, opens, closes, Made, opens_or_closes, seizes_or_releases, opened_with, since, last_accepted, owner_in, held_by, line_or, cell_from}
 use Rattle.rules.proofs.Tabulate.{tabulate_at, tabulate_set}
@@ -31,7 +32,7 @@ module _ (first : Cell) (past : List Made) where
       → with_line before n l ≡ cell_from first (m ∷ past)
   unfolding cell_from
   one_line m n l e d =
-      ap (λ (ls : List LineState). record { ca = first.ca; length = first.length; c0 = first.c0; bcc = first.bcc; ag = first.ag; p = first.p; lines = ls })
+      ap (λ (ls : List LineState). record { ca = first.ca; size = first.size; c0 = first.c0; bcc = first.bcc; ag = first.ag; p = first.p; lines = ls })
       (ap (λ (x : LineState). set (tabulate line_count (listed past)) n x) (sym e) ∙ tabulate_set line_count (listed past) (listed (m ∷ past)) n (λ k h q. d k q))
 
   -- ---- open and close

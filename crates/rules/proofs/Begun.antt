@@ -1,19 +1,21 @@
 -- The cell that start hands back, accepted or refused: its CA is a cell allocation with C0 in it, BCC, AG and P are in range, and it is what an
 -- empty history says. Assumes nothing.
 use Prim.Native.Nat.{ℕ, ◌≤◌, ◌<◌}
-use mathlib.Core.Path.{◌≡◌, refl, ap, ◌∙◌}
-use mathlib.Core.Bool.{true}
+use mathlib.Core.Path.{◌≡◌, refl, ap, ◌∙◌, subst}
+use mathlib.Core.Bool.{true, false}
 use mathlib.Core.List.{List, [], ◌∷◌}
 use native.Mathlib.Decide.{dec_lt}
 use native.Mathlib.Omega.{arith}
-use lib.Dec.{lit≤}
+use lib.Dec.{lit≤, ltb}
 use lib.ListN.{length, get_or, get_or-eq_default}
 use borrow.Author.Tests.{ltb-false, not-false}
 use Rattle.answers.specs.Outcome.{Outcome}
+use Rattle.answers.specs.Ranges.{no_size}
 use Rattle.answers.specs.Search.{all_below, any_below}
 use Rattle.answers.proofs.Decide.{decided}
+use Rattle.answers.proofs.Tests.{or_none_left, or_none_right}
 use Rattle.hops.specs.Allocation.{is_allocation}
-use Rattle.hops.proofs.Apart.{at_most_64}
+use Rattle.hops.proofs.Apart.{sized, at_most_64}
 use Rattle.rules.specs.State.{Cell, tabulate, allocation, empty}
 use Rattle.rules.specs.Calls.{step, lists, start_causes, refused_cell, start_of}
 use Rattle.rules.specs.History.{opened_with, last_accepted, cell_from}
@@ -29,7 +31,7 @@ record InRange (ca : List ℕ) (c0 bcc ag p : ℕ) : Type 0 where
 
 pub record Begun (first : Cell) : Type 0 where
   pub allocated : is_allocation (allocation first) ≡ true
-  pub known_length : length (allocation first) ≡ first.length
+  pub known_length : length (allocation first) ≡ first.size
   pub ag_range : first.ag ≤ 7
   pub p_range : 2 ≤ first.p
   pub nothing_open : first ≡ cell_from first []
@@ -37,7 +39,7 @@ pub record Begun (first : Cell) : Type 0 where
 -- CA has room for 64 entries, and 0 after its own; C0 is one of them; the other ranges
 pub record Filled (first : Cell) : Type 0 where
   pub room : length first.ca ≡ 64
-  pub past_length : (k : ℕ) → first.length ≤ k → get_or first.ca k 0 ≡ 0
+  pub past_length : (k : ℕ) → first.size ≤ k → get_or first.ca k 0 ≡ 0
   pub c0_listed : lists (allocation first) first.c0 ≡ true
   pub bcc_range : first.bcc ≤ 7
   pub p_most : first.p ≤ 9
@@ -67,6 +69,10 @@ module _ (ca : List ℕ) (c0 bcc ag p : ℕ) (h : is_allocation ca ≡ true) (r 
               let h : length (tabulate 64 (λ i. get_or ca i 0)) ≤ k = omega arith in
               get_or-eq_default (tabulate 64 (λ i. get_or ca i 0)) 0 h
 
+-- CA has the length of one
+pub begun_size : (first : Cell) → Begun first → no_size first.size ≡ false
+begun_size first b = subst (λ (n : ℕ). no_size n ≡ false) b.known_length (sized (allocation first) b.allocated)
+
 zero_allocation : is_allocation (0 ∷ []) ≡ true
 unfolding is_allocation all_below
 zero_allocation = refl
@@ -86,8 +92,8 @@ started Has has ca c0 bcc ag p =
       c0_listed = not-false _ none.1.0.0;
       bcc_range = ltb-false 7 bcc none.1.0.1.0;
       ag_range = ltb-false 7 ag none.1.0.1.1.0;
-      p_range = ltb-false p 2 none.1.0.1.1.1.0;
-      p_most = ltb-false 9 p none.1.0.1.1.1.1.0;
+      p_range = ltb-false p 2 (or_none_left (ltb p 2) (ltb 9 p) none.1.0.1.1.1.0);
+      p_most = ltb-false 9 p (or_none_right (ltb p 2) (ltb 9 p) none.1.0.1.1.1.0);
     }))
 
 pub start_begun : (ca : List ℕ) (c0 bcc ag p : ℕ) → Begun (start_of ca c0 bcc ag p).cell

@@ -21,7 +21,7 @@ use Rattle.rules.specs.Borders.{StartBorders, OpenBorders, PlaceBorders, CloseBo
 
 start_borders : StartBorders
 unfolding from decide any_of all_below any_below is_allocation tabulate closed_line empty start_of
-start_borders = record { length = refl; arfcns = refl; ascending = refl; c0 = refl; parameters = refl; lowest = refl; cell = refl; refused_by_1 = refl; refused_by_2 = refl; lines = (refl, refl) }
+start_borders = record { sizes = refl; arfcns = refl; ascending = refl; c0 = refl; parameters = refl; lowest = refl; cell = refl; refused_by_1 = refl; refused_by_2 = refl; lines = (refl, refl) }
 
 open_borders : OpenBorders
 unfolding from refusals decide any_of all_below any_below least ones_below one_at_or_above share_one is_allocation clash combinations among tabulate closed_line empty start_of open_of
@@ -29,7 +29,7 @@ open_borders = record { ranges = refl; combinations = refl; masks = refl; maios 
 
 place_borders : PlaceBorders
 unfolding refusals decide any_of all_below any_below least ones_below one_at_or_above share_one is_allocation clash combinations among tabulate closed_line empty start_of open_of
-place_borders = record { four = refl; five = refl; five_reserved = refl; six = refl; six_alone = refl; six_with_five = refl; six_above = refl; beside_six = refl }
+place_borders = record { four = refl; five = refl; c0_alone = refl; five_reserved = refl; six = refl; six_alone = refl; six_with_five = refl; six_above = refl; beside_six = refl }
 
 close_borders : CloseBorders
 unfolding refusals decide any_of all_below any_below least ones_below one_at_or_above share_one is_allocation clash combinations among tabulate closed_line empty start_of open_of close_of seize_of release_of

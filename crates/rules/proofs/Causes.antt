@@ -8,12 +8,13 @@ use mathlib.Core.Logic.{⊎_elim}
 use mathlib.Core.Option.{none, some}
 use native.Mathlib.Omega.{arith}
 use Rattle.answers.specs.Outcome.{Refused, Outcome, refused, accepted, Cause, any_of, decide, ascending, ascending_from}
+use Rattle.answers.specs.Ranges.{line_count}
 use Rattle.answers.specs.Search.{any_below}
 use Rattle.answers.specs.Claims.{FairAnswer, NoCause}
 use Rattle.answers.proofs.Decide.{refused_has_cause, refused_is_lowest, fair_answer, decided}
 use Rattle.answers.proofs.Search.{any_none, First, first_or_none, least_first}
 use Rattle.answers.proofs.Tests.{or_false, not_both}
-use Rattle.rules.specs.State.{Cell, Values, line_count, line_with, free, closed_line, line_at, empty}
+use Rattle.rules.specs.State.{Cell, Values, line_with, free, closed_line, line_at, empty}
 use Rattle.rules.specs.Calls.{step, start_causes, refused_cell, start_of, with_line, with_owner, in_the_way, clash_cause, open_causes, open_of, close_causes, close_of, seize_causes, seize_of, release_causes, release_of}
 use Rattle.rules.specs.OnAir.{slot_of, line_causes, line_of}
 use Rattle.rules.specs.Who.{who_causes, match_of, who_of}

@@ -10,12 +10,13 @@ use native.Mathlib.Omega.{arith}
 use lib.Dec.{eqb}
 use borrow.Author.Tests.{eqb-true, eqb-false, eq-eqb, ne_eqb, not-true, not-false}
 use Rattle.answers.specs.Outcome.{Refused, Outcome, Cause, any_of}
+use Rattle.answers.specs.Ranges.{line_count}
 use Rattle.answers.specs.Search.{any_below}
 use Rattle.answers.specs.Claims.{Caused}
 use Rattle.answers.proofs.Decide.{decided}
 use Rattle.answers.proofs.Search.{First, any_at, any_none, first_or_none}
 use Rattle.answers.proofs.Tables.{every}
-use Rattle.answers.proofs.Tests.{and_left, and_right, and_both, and_false_right, and_rest, not_both, refute}
+use Rattle.answers.proofs.Tests.{and_left, and_right, and_both, and_false_right, and_rest, not_both, refute, or_none_left, or_none_right}
 use Rattle.hops.specs.Masks.{contains, share_one}
 use Rattle.hops.specs.Clash.{clash}
 use Rattle.hops.proofs.Bits.{bit_contains, contains_bit}
@@ -23,7 +24,7 @@ use Rattle.maps.specs.Channels.{is_common}
 use Rattle.maps.specs.Combinations.{rows_of}
 use Rattle.maps.specs.Rows.{Row}
 use Rattle.groups.proofs.Causes.{page_fair}
-use Rattle.rules.specs.State.{Cell, LineState, Values, line_count, closed_line, is_open, line_at, empty}
+use Rattle.rules.specs.State.{Cell, LineState, Values, closed_line, is_open, line_at, empty}
 use Rattle.rules.specs.Calls.{step, start_causes, start_of, physical, line_physical, clash_cause, open_causes, subchannels, is_common_line}
 use Rattle.rules.specs.Paging.{common_lines, common_of, page_of}
 use Rattle.rules.specs.History.{Made, opened_with, last_accepted, since, held_by, is_seized, cell_from}
@@ -32,7 +33,7 @@ use Rattle.rules.specs.WellFormed.{Closed}
 use Rattle.rules.specs.Claims.{FairCalls, StartsClosed, StandsInTheWay, NamesSmallest, ClashNamesSmallest, HasRow, SubchannelsOfMap, Beside, ReadsTheList, HeldHasOwner, WhoNames, CommonIn, CountedInOrder, CommonLinesInOrder}
 use Rattle.rules.proofs.Tabulate.{tabulate_at}
 use Rattle.rules.proofs.Begun.{Begun, start_begun}
-use Rattle.rules.proofs.Sound.{allowed_line, or_none_left, or_none_right, Sound, open_line}
+use Rattle.rules.proofs.Sound.{allowed_line, Sound, open_line}
 use Rattle.rules.proofs.Places.{Placed}
 use Rattle.rules.proofs.Shown.{held_is_owned}
 use Rattle.rules.proofs.CollisionFree.{begin_keeps, run_keeps}
@@ -100,7 +101,7 @@ module _ (v : Values) (l : LineState) where
           record {
             is_open = eqb-false _ _ (not-true _ (and_left (is_open l) _ h));
             in_timeslot = sym (eqb-true _ _ (and_left (eqb v.tn l.tn) _ (and_left met _ clashes)));
-            position = w.place;
+            ca_position = w.place;
             below = w.below;
             one = contains_bit l.mask w.place (and_right (contains v.mask w.place) _ w.passes);
             shared = contains_bit v.mask w.place (and_left (contains v.mask w.place) _ w.passes);
@@ -111,7 +112,7 @@ module _ (v : Values) (l : LineState) where
   unfolding clash share_one
   clash_shows w =
       and_both (ap not (ne_eqb l.combination 0 w.is_open))
-      (and_both (and_both (eq-eqb _ _ (sym w.in_timeslot)) (any_at shared 64 w.position w.below (and_both (bit_contains v.mask w.position w.shared) (bit_contains l.mask w.position w.one))))
+      (and_both (and_both (eq-eqb _ _ (sym w.in_timeslot)) (any_at shared 64 w.ca_position w.below (and_both (bit_contains v.mask w.ca_position w.shared) (bit_contains l.mask w.ca_position w.one))))
       (ap not (refute alone apart)))
     where
       shared : ℕ → Bool

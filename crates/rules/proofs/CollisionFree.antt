@@ -101,9 +101,9 @@ free_of first begun past sound owned =
     record {
       as_listed = refl;
       apart = λ x y spot hd a b. one_spot first begun past sound spot hd x y a b;
-      line = λ n v fn d e hf hd. line_is first past sound n v e fn hf d hd;
-      shown = λ x spot hf hd a. stands_shown first past sound x spot hf hd owned a;
-      stands = λ x spot hf hd a. shown_stands first past sound x spot hf hd owned a;
+      line = λ n v fn d e hf hd. line_is first begun past sound n v e fn hf d hd;
+      shown = λ x spot hf hd a. stands_shown first begun past sound x spot hf hd owned a;
+      stands = λ x spot hf hd a. shown_stands first begun past sound x spot hf hd owned a;
     }
 
 -- what every run has. That the common lines are in their places is for paging (PageAndLine.antt); that, their training codes and the owners are

@@ -8,9 +8,8 @@ use native.Mathlib.Omega.{arith}
 use lib.Seq.{get_or-take}
 use borrow.Author.Tests.{le-ltb, lt-leb}
 use Rattle.answers.specs.Outcome.{accepted, any_of}
+use Rattle.answers.specs.Ranges.{hyperframe, line_count}
 use Rattle.answers.proofs.Decide.{passes, accepts, none_holds}
-use Rattle.answers.proofs.Tests.{lt_not_ltb}
-use Rattle.clock.specs.Clock.{hyperframe}
 use Rattle.hops.specs.Hopping.{position_of, line_position, line_arfcn}
 use Rattle.hops.proofs.Apart.{line_within}
 use Rattle.maps.specs.Channels.{Standing, is_common}
@@ -23,22 +22,24 @@ use Rattle.rules.specs.State.{Cell, LineState, Values, owner_room, line_with, is
 use Rattle.rules.specs.OnAir.{entry_at, in_frame, owner_of, slot_of, line_of}
 use Rattle.rules.specs.History.{Made, opened_with, held_by, cell_from}
 use Rattle.rules.specs.CollisionFree.{slot_from}
+use Rattle.rules.proofs.Begun.{Begun, begun_size}
 use Rattle.rules.proofs.Tabulate.{tabulate_at}
 use Rattle.rules.proofs.SubchannelRows.{row_subchannel}
 use Rattle.rules.proofs.Lines.{has_room, same_slot}
 use Rattle.rules.proofs.Sound.{Allowed, allowed_within, allowed_maio, allowed_line, allowed_combination, allowed_tn, allowed_hsn, allowed_open, Sound, open_line}
 
-module _ (first : Cell) (n : ℕ) (v : Values) (a : Allowed first n v) (fn : ℕ) (hf : fn < hyperframe) where
-  position : position_of first.length v.mask v.hsn v.maio fn ≡ accepted (line_position v.mask v.hsn v.maio fn)
+module _ (first : Cell) (begun : Begun first) (n : ℕ) (v : Values) (a : Allowed first n v) (fn : ℕ) (hf : fn < hyperframe) where
+  position : position_of first.size v.mask v.hsn v.maio fn ≡ accepted (line_position v.mask v.hsn v.maio fn)
   unfolding position_of
   position =
-      passes _ _ _ (lt_not_ltb v.hsn 64 (allowed_hsn first n v a), (lt_not_ltb fn hyperframe hf, tt)) ∙ (passes _ _ _ a.mask ∙ (passes _ _ _ a.maio ∙ accepts _))
+      passes _ _ _ (begun_size first begun, tt)
+      ∙ (passes _ _ _ (le-ltb 63 v.hsn (let h = allowed_hsn first n v a in omega (arith, h)), (lt-leb hyperframe fn hf, tt)) ∙ (passes _ _ _ a.mask ∙ (passes _ _ _ a.maio ∙ accepts _)))
 
   -- the ARFCN is the one that the hopping rules give
-  pub arfcn_is : entry_at first.ca (position_of first.length v.mask v.hsn v.maio fn) ≡ line_arfcn (allocation first) v.mask v.hsn v.maio fn
+  pub arfcn_is : entry_at first.ca (position_of first.size v.mask v.hsn v.maio fn) ≡ line_arfcn (allocation first) v.mask v.hsn v.maio fn
   arfcn_is =
       ap (entry_at first.ca) position
-      ∙ sym (get_or-take first.length first.ca (line_position v.mask v.hsn v.maio fn) 0 (line_within v.mask v.hsn v.maio fn (allowed_maio first n v a) first.length (allowed_within first n v a)))
+      ∙ sym (get_or-take first.size first.ca (line_position v.mask v.hsn v.maio fn) 0 (line_within v.mask v.hsn v.maio fn (allowed_maio first n v a) first.size (allowed_within first n v a)))
 
   module _ (d : ℕ) (hd : d < 2) where
     there : List Standing
@@ -47,7 +48,7 @@ module _ (first : Cell) (n : ℕ) (v : Values) (a : Allowed first n v) (fn : ℕ
     in_range : any_of (out_of_range v.combination v.tn fn d) ≡ false
     in_range =
         none_holds (out_of_range v.combination v.tn fn d)
-        (allowed_combination first n v a, (le-ltb 7 v.tn (let t = allowed_tn first n v a in omega (arith, t)), (le-ltb 2715647 fn (omega arith), (le-ltb 1 d (omega arith), tt))))
+        (allowed_combination first n v a, (le-ltb 7 v.tn (let t = allowed_tn first n v a in omega (arith, t)), (lt-leb hyperframe fn hf, (le-ltb 1 d (omega arith), tt))))
 
     map_is : in_frame (map_of v.combination v.tn fn d) ≡ there
     unfolding there
@@ -69,19 +70,19 @@ module _ (first : Cell) (n : ℕ) (v : Values) (a : Allowed first n v) (fn : ℕ
                 below : Stood (rows_of v.combination v.tn d) fn x → x.subchannel < owner_room
                 below w = subst (λ (y : Standing). y.subchannel < owner_room) w.tells (let l = row_subchannel v.tn (allowed_tn first n v a) d hd v.combination w.by w.member (ap (λ (y : Standing). is_common y.kind) w.tells ∙ e) in let m = has_room v.combination in omega (arith, l, m))
 
-module _ (first : Cell) (past : List Made) (sound : Sound first past) (n : ℕ) (v : Values) (e : opened_with past n ≡ some v) (fn : ℕ) (hf : fn < hyperframe) (d : ℕ) (hd : d < 2) where
+module _ (first : Cell) (begun : Begun first) (past : List Made) (sound : Sound first past) (n : ℕ) (v : Values) (e : opened_with past n ≡ some v) (fn : ℕ) (hf : fn < hyperframe) (d : ℕ) (hd : d < 2) where
   slot_is : slot_of (cell_from first past) (line_with v (held_by past n)) fn d ≡ slot_from first past n v fn d
   unfolding slot_of cell_from there
   slot_is =
       let a = sound.allowed n v e in
-      same_slot (arfcn_is first n v a fn hf) (map_is first n v a fn hf d hd)
-      (ap (owner_of (owner_at (line_with v (held_by past n)))) (map_is first n v a fn hf d hd) ∙ owner_is first n v a fn hf d hd (held_by past n))
+      same_slot (arfcn_is first begun n v a fn hf) (map_is first begun n v a fn hf d hd)
+      (ap (owner_of (owner_at (line_with v (held_by past n)))) (map_is first begun n v a fn hf d hd) ∙ owner_is first begun n v a fn hf d hd (held_by past n))
 
   -- `line` of an open line
   pub line_is : line_of (cell_from first past) n fn d ≡ accepted (slot_from first past n v fn d)
   unfolding line_of
   line_is =
-      passes _ _ _ (le-ltb 63 n (let l = allowed_line first n v a in omega (arith, l)), (lt-leb hyperframe fn hf, (le-ltb 1 d (omega arith), tt)))
+      passes _ _ _ (lt-leb line_count n (allowed_line first n v a), (lt-leb hyperframe fn hf, (le-ltb 1 d (omega arith), tt)))
       ∙ (passes _ _ _ (ap not opened, tt)
       ∙ (accepts _ ∙ ap accepted (ap (λ (l : LineState). slot_of (cell_from first past) l fn d) (open_line first past sound n v e) ∙ slot_is)))
     where

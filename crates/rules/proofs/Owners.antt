@@ -8,6 +8,7 @@ use mathlib.Core.Logic.{◌⊎◌, inl, inr, ⊎_elim}
 use mathlib.Core.Option.{Option, some}
 use native.Mathlib.Omega.{arith}
 use lib.Dec.{eqb, ltb}
+use Rattle.answers.proofs.Tests.{or_none_left, or_none_right}
 use borrow.Author.Tests.{eqb-true, eqb-false, ltb-true, ltb-false, not-false}
 use Rattle.rules.specs.State.{Cell, LineState, Values, line_at}
 use Rattle.rules.specs.Calls.{Step, subchannels, no_subchannel}
@@ -15,7 +16,7 @@ use Rattle.rules.specs.History.{Call, opens, closes, seizes, releases, Made, ope
 use Rattle.rules.specs.CollisionFree.{calling, made}
 use Rattle.rules.proofs.History.{was_accepted, was_refused, named_held, other_opened, other_held, owner_named, owner_beside, owner_elsewhere, still_opened}
 use Rattle.rules.proofs.EachCall.{each_call}
-use Rattle.rules.proofs.Sound.{Sound, open_line, or_none_left, or_none_right}
+use Rattle.rules.proofs.Sound.{Sound, open_line}
 
 -- a subchannel is held exactly if it has an owner
 abbrev pub Owned : List Made → Type 0

@@ -7,14 +7,15 @@ use mathlib.Core.List.{List, [], ◌∷◌}
 use mathlib.Core.Logic.{◌⊎◌, inl, inr, ⊎_elim}
 use mathlib.Core.Option.{Option, none, some}
 use native.Mathlib.Omega.{arith}
-use lib.Dec.{eqb, ltb}
-use borrow.Author.Tests.{eqb-true, eqb-false, eq-eqb, ne_eqb, ltb-false, le-ltb, not-false}
+use lib.Dec.{eqb}
+use borrow.Author.Tests.{eqb-true, eqb-false, eq-eqb, ne_eqb, ltb-false, not-false, lt-leb}
 use Rattle.answers.specs.Outcome.{Outcome}
-use Rattle.answers.specs.Claims.{None}
+use Rattle.answers.specs.Claims.{NoneHolds}
+use Rattle.answers.specs.Ranges.{line_count, no_line}
 use Rattle.answers.proofs.Decide.{decided}
 use Rattle.answers.proofs.Search.{First, any_at, any_none, first_or_none}
 use Rattle.answers.proofs.Tests.{and_left, and_right, and_both, and_rest, or_left, or_right, not_both}
-use Rattle.rules.specs.State.{Cell, LineState, Values, line_count, line_with, is_open, line_at}
+use Rattle.rules.specs.State.{Cell, LineState, Values, line_with, is_open, line_at}
 use Rattle.rules.specs.Calls.{step, any_line, has_combination, is_common_combination, is_common_line, stands_in, c0_alone, misplaced, needed, open_causes, open_of, close_causes, close_of, seize_causes, seize_of, release_causes, release_of}
 use Rattle.rules.specs.History.{Call, opens, closes, seizes, releases, Made, opened_with, last_accepted, held_by, cell_from}
 use Rattle.rules.specs.CollisionFree.{calling, made}
@@ -97,7 +98,7 @@ module _ (first : Cell) (past : List Made) (sound : Sound first past) where
     where
       here : First (λ k. test (line_at before k)) line_count → Such test
       here w =
-          let o = is_opened first past sound w.place (le-ltb 63 w.place (let b = w.below in omega (arith, b))) (ap not (opened (line_at before w.place) w.passes)) in
+          let o = is_opened first past sound w.place (lt-leb line_count w.place w.below) (ap not (opened (line_at before w.place) w.passes)) in
           record { line = w.place; values = o.values; is_open = o.is_open; passes = ap test (sym (open_line first past sound w.place o.values o.is_open)) ∙ w.passes }
 
   -- a line with a combination is open
@@ -106,7 +107,7 @@ module _ (first : Cell) (past : List Made) (sound : Sound first past) where
 
   -- ---- what an open that 8 does not refuse shows
 
-  module _ (v : Values) (free : None (misplaced before v)) where
+  module _ (v : Values) (free : NoneHolds (misplaced before v)) where
     is_first : (v.combination ≡ 4) ⊎ (v.combination ≡ 5) → (eqb v.combination 4 || eqb v.combination 5) ≡ true
     is_first (inl e) = or_left _ (eq-eqb _ _ e)
     is_first (inr e) = or_right (eqb v.combination 4) (eq-eqb _ _ e)
@@ -202,7 +203,7 @@ module _ (first : Cell) (past : List Made) (sound : Sound first past) where
             go true q = not_both (higher (eqb-true _ _ q)) (ap (needed before) (sym (open_line first past sound n u o)) ∙ free)
             go false q = record { line = l.line; values = l.values; is_open = other_opened past (closes n) n (λ i. refl) l.line (eqb-false _ _ q) ∙ l.is_open; four_or_six = l.four_or_six; two_lower = l.two_lower }
 
-    placed_opened : (n : ℕ) (v : Values) → None (misplaced before v) → opened_with past n ≡ none → Placed first (was_accepted (opens n v) ∷ past)
+    placed_opened : (n : ℕ) (v : Values) → NoneHolds (misplaced before v) → opened_with past n ≡ none → Placed first (was_accepted (opens n v) ∷ past)
     placed_opened n v free shut =
         record {
           in_place = λ k w e h. place k w h (open_after_open past n v k w e);
@@ -254,7 +255,7 @@ module _ (first : Cell) (past : List Made) (sound : Sound first past) where
         decided (open_causes before n v) _ (λ (o : Outcome Cell). Placed first (made (opens n v) (step before o) ∷ past)) (λ r. placed_refused (opens n v))
         (λ none. placed_opened n v none.1.1.1.1.0 (shut none.0.0 none.1.1.1.0.0))
       where
-        shut : ltb 63 n ≡ false → is_open (line_at before n) ≡ false → opened_with past n ≡ none
+        shut : no_line n ≡ false → is_open (line_at before n) ≡ false → opened_with past n ≡ none
         shut h f = go (opened_with past n) refl
           where
             go : (o : Option Values) → opened_with past n ≡ o → o ≡ none

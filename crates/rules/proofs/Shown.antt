@@ -8,9 +8,9 @@ use mathlib.Core.Option.{some}
 use native.Mathlib.Omega.{arith}
 use borrow.Author.Tests.{eqb-true, not-true}
 use Rattle.answers.specs.Outcome.{Outcome, accepted}
+use Rattle.answers.specs.Ranges.{hyperframe}
 use Rattle.answers.proofs.Decide.{decided}
 use Rattle.answers.proofs.Tests.{and_left, and_right}
-use Rattle.clock.specs.Clock.{hyperframe}
 use Rattle.hops.specs.Hopping.{line_arfcn}
 use Rattle.maps.specs.Channels.{Standing, is_common}
 use Rattle.maps.specs.Combinations.{rows_of}
@@ -25,6 +25,7 @@ use Rattle.rules.specs.CollisionFree.{slot_from, is_owned, Shown}
 use Rattle.rules.specs.Claims.{has_owner}
 use Rattle.rules.proofs.Sound.{allowed_tn, Sound, open_line, Opened, is_opened}
 use Rattle.rules.proofs.Owners.{Owned}
+use Rattle.rules.proofs.Begun.{Begun}
 use Rattle.rules.proofs.LineAnswer.{line_is}
 
 -- the owner that is shown is that of any burst that stands there
@@ -51,7 +52,7 @@ pub held_is_owned : (past : List Made) → Owned past → (x : Channel) → is_h
 held_is_owned past own (subchannel n s) = own n s
 held_is_owned past own (common_part n) = refl
 
-module _ (first : Cell) (past : List Made) (sound : Sound first past) (x : Channel) (spot : Spot) (hf : spot.fn < hyperframe) (hd : spot.direction < 2) where
+module _ (first : Cell) (begun : Begun first) (past : List Made) (sound : Sound first past) (x : Channel) (spot : Spot) (hf : spot.fn < hyperframe) (hd : spot.direction < 2) where
   abbrev n : ℕ
   n = line_number x
 
@@ -89,7 +90,7 @@ module _ (first : Cell) (past : List Made) (sound : Sound first past) (x : Chann
       let m = stood (rows_of v.combination v.tn spot.direction) spot.fn a.row a.of_map a.in_frame in
       record {
         slot = shows v;
-        answer = line_is first past sound n v a.is_open spot.fn hf spot.direction hd;
+        answer = line_is first begun past sound n v a.is_open spot.fn hf spot.direction hd;
         burst = told a.row;
         in_frame = m;
         of_channel = a.of_channel;
@@ -128,7 +129,7 @@ module _ (first : Cell) (past : List Made) (sound : Sound first past) (x : Chann
 
       same : a.slot ≡ shows v
       same =
-          let e : accepted a.slot ≡ accepted (shows v) = sym a.answer ∙ line_is first past sound n v w.is_open spot.fn hf spot.direction hd in
+          let e : accepted a.slot ≡ accepted (shows v) = sym a.answer ∙ line_is first begun past sound n v w.is_open spot.fn hf spot.direction hd in
           let q : a.slot ≡ shows v = cc in q
 
       there : Memᴰ a.burst (standing (rows_of v.combination v.tn spot.direction) spot.fn)

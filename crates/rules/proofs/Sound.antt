@@ -1,25 +1,26 @@
 -- What every history of calls has, whatever the list: the open lines are allowed, and no two of them clash. Kept by each call. Assumes nothing.
 use Prim.Native.Nat.{ℕ, ◌≤◌, ◌<◌}
 use mathlib.Core.Path.{◌≡◌, refl, sym, ap, ◌∙◌, subst}
-use mathlib.Core.Bool.{Bool, true, false, not, ◌&&◌, ◌||◌}
+use mathlib.Core.Bool.{true, false, not, ◌&&◌}
 use mathlib.Core.List.{List, [], ◌∷◌}
 use mathlib.Core.Logic.{◌⊎◌, inl, inr}
 use mathlib.Core.Option.{Option, none, some}
 use native.Mathlib.Omega.{arith}
-use lib.Dec.{ltb}
-use borrow.Author.Tests.{ltb-true, ltb-false, ne_eqb, not-false}
+use borrow.Author.Tests.{ltb-true, ltb-false, leb-false, ne_eqb, not-false}
 use Rattle.answers.specs.Outcome.{Outcome}
+use Rattle.answers.specs.Ranges.{line_count, no_line}
 use Rattle.answers.specs.Search.{any_below}
-use Rattle.answers.specs.Claims.{None}
+use Rattle.answers.specs.Claims.{NoneHolds}
 use Rattle.answers.proofs.Decide.{decided}
 use Rattle.answers.proofs.Search.{any_at}
 use Rattle.answers.proofs.Tests.{and_both, refute, not_both}
 use Rattle.hops.specs.Masks.{ones, one_at_or_above}
+use Rattle.hops.specs.Hopping.{mask_cause, maio_cause}
 use Rattle.hops.specs.Clash.{clash}
 use Rattle.maps.specs.Combinations.{is_combination}
 use Rattle.maps.proofs.Range.{combination_zero}
-use Rattle.rules.specs.State.{Cell, LineState, Values, line_count, line_with, closed_line, is_open, line_at}
-use Rattle.rules.specs.Calls.{Step, step, open_range, no_allocation, no_maio, physical, line_physical, in_the_way, open_causes, open_of, close_causes, close_of, seize_causes, seize_of, release_causes, release_of}
+use Rattle.rules.specs.State.{Cell, LineState, Values, line_with, closed_line, is_open, line_at}
+use Rattle.rules.specs.Calls.{Step, step, open_range, physical, line_physical, in_the_way, open_causes, open_of, close_causes, close_of, seize_causes, seize_of, release_causes, release_of}
 use Rattle.rules.specs.History.{Call, opens, closes, seizes, releases, Made, opened_with, last_accepted, since, held_by, line_or, cell_from}
 use Rattle.rules.specs.CollisionFree.{calling, made}
 use Rattle.rules.proofs.History.{none_is_not_some, was_accepted, was_refused, open_after_open, open_after_close, still_opened}
@@ -27,9 +28,9 @@ use Rattle.rules.proofs.AsListed.{line_listed, refused_listed, opened_listed, cl
 
 -- the numbers of an open line are in range, its mask fits CA and its MAIO is below N
 pub record Allowed (first : Cell) (n : ℕ) (v : Values) : Type 0 where
-  pub range : None (open_range n v)
-  pub mask : None (no_allocation first.length v)
-  pub maio : None (no_maio v)
+  pub range : NoneHolds (open_range n v)
+  pub mask : NoneHolds (mask_cause first.size v.mask).conditions
+  pub maio : NoneHolds (maio_cause v.mask v.maio).conditions
 
 -- two lines do not clash, in one order or the other
 abbrev pub Clear : Values → Values → Type 0
@@ -48,7 +49,7 @@ sound_first first = record { allowed = λ n v e. absurd (none_is_not_some e); cl
 
 module _ (first : Cell) (n : ℕ) (v : Values) (a : Allowed first n v) where
   pub allowed_line : n < line_count
-  allowed_line = let h = ltb-false 63 n a.range.0 in omega (arith, h)
+  allowed_line = leb-false line_count n a.range.0
 
   pub allowed_combination : not (is_combination v.combination) ≡ false
   allowed_combination = a.range.1.1.1.0
@@ -63,7 +64,7 @@ module _ (first : Cell) (n : ℕ) (v : Values) (a : Allowed first n v) where
   allowed_tsc = ltb-false 7 v.tsc a.range.1.1.1.1.0
 
   -- the mask is within CA, and MAIO below N
-  pub allowed_within : one_at_or_above v.mask first.length ≡ false
+  pub allowed_within : one_at_or_above v.mask first.size ≡ false
   allowed_within = a.mask.1.0
 
   pub allowed_maio : v.maio < ones v.mask
@@ -74,14 +75,6 @@ module _ (first : Cell) (n : ℕ) (v : Values) (a : Allowed first n v) where
   allowed_open owners = ap not (ne_eqb v.combination 0 (λ z. not_both (combination_zero v.combination z) allowed_combination))
 
 -- ---- one more call
-
-pub or_none_left : (a b : Bool) → (a || b) ≡ false → a ≡ false
-or_none_left true b h = h
-or_none_left false b h = refl
-
-pub or_none_right : (a b : Bool) → (a || b) ≡ false → b ≡ false
-or_none_right true b h = not_both refl h
-or_none_right false b h = h
 
 closed : is_open closed_line ≡ false
 unfolding closed_line
@@ -165,11 +158,11 @@ module _ (first : Cell) (past : List Made) (sound : Sound first past) where
     pub within : n < line_count
     pub is_open : opened_with past n ≡ some values
 
-  pub is_opened : (n : ℕ) → ltb 63 n ≡ false → not (is_open (line_at before n)) ≡ false → Opened n
+  pub is_opened : (n : ℕ) → no_line n ≡ false → not (is_open (line_at before n)) ≡ false → Opened n
   is_opened n h t = go (opened_with past n) refl
     where
       within : n < line_count
-      within = let l = ltb-false 63 n h in omega (arith, l)
+      within = leb-false line_count n h
 
       go : (o : Option Values) → opened_with past n ≡ o → Opened n
       go none e =

@@ -6,7 +6,7 @@ use mathlib.Core.List.{List, [], ◌∷◌}
 use mathlib.Core.Logic.{⊎_elim}
 use mathlib.Core.Option.{some}
 use borrow.Author.Tests.{eqb-true, not-false}
-use Rattle.answers.specs.Claims.{None}
+use Rattle.answers.specs.Claims.{NoneHolds}
 use Rattle.answers.proofs.Tests.{and_rest}
 use Rattle.rules.specs.State.{Cell, Values}
 use Rattle.rules.specs.Calls.{Step, is_common_combination, misplaced}
@@ -38,7 +38,7 @@ module _ (first : Cell) (past : List Made) (trained : Trained first past) where
   trained_closed : (n : ℕ) → Trained first (was_accepted (closes n) ∷ past)
   trained_closed n k v e h = trained k v (open_after_close past n k v e).1 h
 
-  trained_opened : (n : ℕ) (v : Values) → None (misplaced before v) → Trained first (was_accepted (opens n v) ∷ past)
+  trained_opened : (n : ℕ) (v : Values) → NoneHolds (misplaced before v) → Trained first (was_accepted (opens n v) ∷ past)
   unfolding cell_from
   trained_opened n v free k w e h =
       ⊎_elim (λ q. subst (λ (u : Values). u.tsc ≡ first.bcc) q.1 (new (ap (λ (u : Values). is_common_combination u.combination) q.1 ∙ h))) (λ o. trained k w o h) (open_after_open past n v k w e)

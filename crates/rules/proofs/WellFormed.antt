@@ -8,18 +8,17 @@ use mathlib.Core.Logic.{◌⊎◌, inl, inr, ⊎_elim}
 use mathlib.Core.Option.{Option, none, some}
 use native.Mathlib.Decide.{dec_lt}
 use native.Mathlib.Omega.{arith}
-use lib.Dec.{eqb, ltb, leb}
+use lib.Dec.{eqb}
 use lib.ListN.{length, get_or, get_or-eq_default}
 use lib.Seq.{get_or-take}
-use borrow.Author.Tests.{eqb-true, eqb-false, eq-eqb, ltb-true, le-leb, not-true, not-false}
+use borrow.Author.Tests.{eqb-true, eqb-false, eq-eqb, not-true, not-false}
 use Rattle.answers.proofs.Search.{First, any_at, any_none, first_or_none}
-use Rattle.answers.proofs.Tests.{and_left, and_right, and_both, and_rest, or_false, not_both}
-use Rattle.hops.specs.Masks.{contains, ones, one_at_or_above, share_one}
-use Rattle.hops.specs.Allocation.{is_allocation}
+use Rattle.answers.proofs.Tests.{and_left, and_right, and_both, and_rest, or_none_left, or_false, not_both}
+use Rattle.hops.specs.Masks.{contains, ones, share_one}
 use Rattle.hops.specs.Hopping.{line_position}
 use Rattle.hops.specs.Clash.{Physical, clash}
-use Rattle.hops.proofs.Apart.{line_one, line_within, at_most_64, entry_arfcn, ascends}
-use Rattle.hops.proofs.Bits.{bit_contains, contains_bit, ones_past, zero_bit}
+use Rattle.hops.proofs.Apart.{line_one, line_within, sized, at_most_64, entry_arfcn, ascends}
+use Rattle.hops.proofs.Bits.{bit_contains, contains_bit, above_bit, ones_past, zero_bit}
 use Rattle.maps.specs.Combinations.{combinations, among, is_combination}
 use Rattle.rules.specs.State.{Cell, LineState, Values, tabulate, owner_room, line_with, closed_line, line_at, owner_at, allocation}
 use Rattle.rules.specs.Calls.{physical, subchannels, has_c0, is_common_combination}
@@ -88,22 +87,21 @@ module _ (first : Cell) (begun : Begun first) (filled : Filled first) (past : Li
   -- ---- the numbers that start names
 
   at_least_1 : 1 ≤ length (allocation first)
-  unfolding is_allocation
   at_least_1 =
-      ltb-true 0 (length (allocation first))
-      (and_left (ltb 0 (length (allocation first))) _ (and_left (ltb 0 (length (allocation first)) && leb (length (allocation first)) 64) _ begun.allocated))
+      let z = eqb-false (length (allocation first)) 0 (or_none_left (eqb (length (allocation first)) 0) _ (sized (allocation first) begun.allocated)) in
+      omega (arith, z)
 
-  in_allocation : (k : ℕ) → k < first.length → k < length (allocation first)
+  in_allocation : (k : ℕ) → k < first.size → k < length (allocation first)
   in_allocation k l = subst (λ (i : ℕ). k < i) (sym begun.known_length) l
 
-  entry : (k : ℕ) → k < first.length → get_or (allocation first) k 0 ≡ get_or first.ca k 0
-  entry k l = get_or-take first.length first.ca k 0 l
+  entry : (k : ℕ) → k < first.size → get_or (allocation first) k 0 ≡ get_or first.ca k 0
+  entry k l = get_or-take first.size first.ca k 0 l
 
   -- the position of C0
   c0_first : First (λ k. eqb (get_or (allocation first) k 0) first.c0) (length (allocation first))
   c0_first = ⊎_elim (λ w. w) (λ f. not_both filled.c0_listed (any_none (λ k. eqb (get_or (allocation first) k 0) first.c0) (length (allocation first)) f)) (first_or_none (λ k. eqb (get_or (allocation first) k 0) first.c0) (length (allocation first)))
 
-  c0_below : c0_first.place < first.length
+  c0_below : c0_first.place < first.size
   c0_below = subst (λ (i : ℕ). c0_first.place < i) begun.known_length c0_first.below
 
   parameters : HasParameters cell
@@ -115,7 +113,7 @@ module _ (first : Cell) (begun : Begun first) (filled : Filled first) (past : Li
         most = subst (λ (i : ℕ). i ≤ 64) begun.known_length (at_most_64 (allocation first) begun.allocated);
         past = filled.past_length;
         arfcn = λ k l. let a = entry_arfcn (allocation first) begun.allocated k (in_allocation k l) in let e = entry k l in omega arith;
-        ascending = λ j k o l. let a = ascends (allocation first) begun.allocated j k o (in_allocation k l) in let d : j < first.length = omega arith in let e = entry j d in let f = entry k l in omega arith;
+        ascending = λ j k o l. let a = ascends (allocation first) begun.allocated j k o (in_allocation k l) in let d : j < first.size = omega arith in let e = entry j d in let f = entry k l in omega arith;
         c0 = c0_first.place;
         c0_within = c0_below;
         c0_there = sym (entry c0_first.place c0_below) ∙ eqb-true _ _ c0_first.passes;
@@ -159,15 +157,12 @@ module _ (first : Cell) (begun : Begun first) (filled : Filled first) (past : Li
           common = λ s k. lacks s (let q : subchannels v.combination ≡ 0 = ⊎_elim (λ r. ap subchannels r) (λ r. ap subchannels r) k in omega arith);
         }
 
-    within_ca : (p : ℕ) → p < 64 → OneAt v.mask p → p < first.length
-    unfolding one_at_or_above
-    within_ca p h o = inside (dec_lt p first.length)
+    within_ca : (p : ℕ) → OneAt v.mask p → p < first.size
+    within_ca p o = inside (dec_lt p first.size)
       where
-        inside : Dec (p < first.length) → p < first.length
+        inside : Dec (p < first.size) → p < first.size
         inside (yes l) = l
-        inside (no l) =
-            not_both (any_at (λ q. leb first.length q && contains v.mask q) 64 p h (and_both (le-leb first.length p (omega arith)) (bit_contains v.mask p o)))
-            (allowed_within first n v a)
+        inside (no l) = not_both (above_bit v.mask first.size p (omega arith) o) (allowed_within first n v a)
 
     is_opened_line : Opened cell (line_with v (held_by past n))
     unfolding cell_from
@@ -177,8 +172,8 @@ module _ (first : Cell) (begun : Begun first) (filled : Filled first) (past : Li
           hsn = let h = allowed_hsn first n v a in omega arith;
           tsc = allowed_tsc first n v a;
           combination = six_cases v.combination (allowed_combination first n v a);
-          position = line_position v.mask v.hsn v.maio 0;
-          there = line_within v.mask v.hsn v.maio 0 (allowed_maio first n v a) first.length (allowed_within first n v a);
+          ca_position = line_position v.mask v.hsn v.maio 0;
+          there = line_within v.mask v.hsn v.maio 0 (allowed_maio first n v a) first.size (allowed_within first n v a);
           one = (line_one v.mask v.hsn v.maio 0 (allowed_maio first n v a)).one;
           within = within_ca;
           maio = allowed_maio first n v a;
@@ -339,8 +334,8 @@ module _ (first : Cell) (begun : Begun first) (filled : Filled first) (past : Li
               let f : lower.values.tn ≡ 4 = omega (arith, below_8) in
               inr (inr (omega arith, stands lower.line 6 4 lower.values lower.is_open k f))
 
-  beacon : (n p : ℕ) → IsCommon cell n → p < 64 → OneAt (line_at cell n).mask p → get_or first.ca p 0 ≡ first.c0
-  beacon n p h l o = ⊎_elim here (λ f. not_both (and_right (eqb (ones v.mask) 1) _ alone_there) (any_none test 64 f)) (first_or_none test 64)
+  beacon : (n p : ℕ) → IsCommon cell n → OneAt (line_at cell n).mask p → get_or first.ca p 0 ≡ first.c0
+  beacon n p h o = ⊎_elim here (λ f. not_both (and_right (eqb (ones v.mask) 1) _ alone_there) (any_none test first.size f)) (first_or_none test first.size)
     where
       w : Common n
       w = common n h
@@ -357,9 +352,12 @@ module _ (first : Cell) (begun : Begun first) (filled : Filled first) (past : Li
       one : OneAt v.mask p
       one = ap (λ (x : LineState). x.mask / 2 ^ p % 2) (sym w.line.is) ∙ o
 
-      here : First test 64 → get_or first.ca p 0 ≡ first.c0
+      below_64 : (k : ℕ) → k < first.size → k < 64
+      below_64 k l = let m = at_most_64 (allocation first) begun.allocated in let q = in_allocation k l in omega (arith, m, q)
+
+      here : First test first.size → get_or first.ca p 0 ≡ first.c0
       here f =
-          let q = one_position v.mask p f.place (eqb-true _ _ (and_left (eqb (ones v.mask) 1) _ alone_there)) l f.below one (contains_bit v.mask f.place (and_left (contains v.mask f.place) _ f.passes)) in
+          let q = one_position v.mask p f.place (eqb-true _ _ (and_left (eqb (ones v.mask) 1) _ alone_there)) (below_64 p (within_ca n v w.line.is_open p one)) (below_64 f.place f.below) one (contains_bit v.mask f.place (and_left (contains v.mask f.place) _ f.passes)) in
           ap (λ (i : ℕ). get_or first.ca i 0) q ∙ eqb-true _ _ (and_right (contains v.mask f.place) _ f.passes)
 
   training : (n : ℕ) → IsCommon cell n → (line_at cell n).tsc ≡ first.bcc

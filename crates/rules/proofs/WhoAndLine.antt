@@ -4,22 +4,22 @@ use mathlib.Core.Path.{◌≡◌, refl, sym, ap, ◌∙◌, subst}
 use mathlib.Core.Bool.{Bool, true, false, not, cond}
 use mathlib.Core.List.{List}
 use mathlib.Core.Logic.{⊎_elim}
-use mathlib.Core.Option.{Option, none, some}
+use mathlib.Core.Option.{none, some}
 use native.Mathlib.Omega.{arith}
 use lib.Dec.{eqb}
 use borrow.Author.Tests.{eqb-true, eqb-false, eq-eqb, ltb-false, le-ltb, lt-leb, leb-false, not-false}
-use Rattle.answers.specs.Outcome.{Outcome, refused, accepted}
+use Rattle.answers.specs.Outcome.{accepted}
+use Rattle.answers.specs.Ranges.{hyperframe, line_count}
 use Rattle.answers.specs.Search.{least}
 use Rattle.answers.specs.Claims.{NoCause}
 use Rattle.answers.proofs.Decide.{passes, accepts, accepted_has_none}
 use Rattle.answers.proofs.Search.{First, any_at, first_of, first_or_none, least_first, any_none}
 use Rattle.answers.proofs.Tests.{and_left, and_right, and_both}
-use Rattle.clock.specs.Clock.{hyperframe}
 use Rattle.hops.specs.Hopping.{line_position, line_arfcn}
 use Rattle.hops.proofs.Apart.{line_within, entry_arfcn}
-use Rattle.rules.specs.State.{Cell, LineState, Values, line_count, is_open, line_at, allocation}
+use Rattle.rules.specs.State.{Cell, LineState, Values, is_open, line_at, allocation}
 use Rattle.rules.specs.OnAir.{Slot, arfcn_in, slot_of, line_causes, line_of}
-use Rattle.rules.specs.Who.{line_is_on, Match, match_at, who_causes, match_of, who_of, line_found}
+use Rattle.rules.specs.Who.{line_is_on, Match, match_at, who_causes, match_of, who_of}
 use Rattle.rules.specs.History.{Made, opened_with, cell_from}
 use Rattle.rules.specs.Reached.{NoneShown, WhoAgrees, WhoAndLine}
 use Rattle.rules.proofs.History.{none_is_not_some}
@@ -57,7 +57,7 @@ module _ (c : Cell) (fn direction : ℕ) where
       → line_of c n fn direction ≡ accepted (slot_of c (line_at c n) fn direction)
   unfolding line_of
   shows_line n h f d o =
-      passes _ _ _ (le-ltb 63 n (omega arith), (lt-leb _ _ f, (le-ltb 1 direction d, tt))) ∙ (passes _ _ _ (ap not o, tt) ∙ accepts _)
+      passes _ _ _ (lt-leb line_count n h, (lt-leb _ _ f, (le-ltb 1 direction d, tt))) ∙ (passes _ _ _ (ap not o, tt) ∙ accepts _)
 
 module _ (c : Cell) (tn arfcn fn : ℕ) where
   abbrev test : ℕ → Bool
@@ -102,23 +102,6 @@ module _ (c : Cell) (tn arfcn fn : ℕ) where
           subst Agrees (let z : some (match_at c w.place fn direction) ≡ some f = sym (found direction w) ∙ given.0 in let q : match_at c w.place fn direction ≡ f = cc in q)
           (shows_line c fn direction w.place w.below (leb-false _ _ given.1.0.1.1.0) (ltb-false _ _ given.1.0.1.1.1.0) (on_open w.place w.passes), on_tn w.place w.passes, on_arfcn w.place w.passes)
 
-  -- the answer behind the number that the code gives
-  pub record Named (direction n : ℕ) : Type 0 where
-    pub named : Match
-    pub answer : who_of c tn arfcn fn direction ≡ accepted (some named)
-    pub number : named.line ≡ n
-    pub line_answer : line_of c n fn direction ≡ accepted named.slot
-
-  pub named_line : (direction n : ℕ) → accepted (some n) ≡ line_found (who_of c tn arfcn fn direction) → Named direction n
-  named_line direction n e = go (who_of c tn arfcn fn direction) refl e
-    where
-      go : (w : Outcome (Option Match)) → who_of c tn arfcn fn direction ≡ w → accepted (some n) ≡ line_found w → Named direction n
-      go (refused r) q z = absurd (let y : ◌≡◌ {A = ℕ} 0 1 = cc in omega arith)
-      go (accepted none) q z = absurd (let y : ◌≡◌ {A = ℕ} 0 1 = cc in omega arith)
-      go (accepted (some f)) q z =
-          let y : n ≡ f.line = cc in
-          record { named = f; answer = q; number = sym y; line_answer = ap (λ (k : ℕ). line_of c k fn direction) y ∙ (who_shown direction f q).0 }
-
 -- ---- of a cell that the calls can hand back
 
 module _ (first : Cell) (begun : Begun first) (past : List Made) (sound : Sound first past) where
@@ -135,13 +118,13 @@ module _ (first : Cell) (begun : Begun first) (past : List Made) (sound : Sound 
   on_line : (n fn : ℕ) → n < line_count → fn < hyperframe → is_open (line_at cell n) ≡ true → OnLine n fn
   unfolding cell_from
   on_line n fn h hf o =
-      let w = is_opened first past sound n (le-ltb 63 n (omega arith)) (ap not o) in
+      let w = is_opened first past sound n (lt-leb line_count n h) (ap not o) in
       let l = open_line first past sound n w.values w.is_open in
       record {
         values = w.values;
         is_open = w.is_open;
         in_timeslot = ap (λ (x : LineState). x.tn) l;
-        on_arfcn = ap (λ (x : LineState). arfcn_in (cell_from first past) x fn) l ∙ arfcn_is first n w.values (sound.allowed n w.values w.is_open) fn hf;
+        on_arfcn = ap (λ (x : LineState). arfcn_in (cell_from first past) x fn) l ∙ arfcn_is first begun n w.values (sound.allowed n w.values w.is_open) fn hf;
       }
 
   one_line : (tn arfcn fn m n : ℕ) → fn < hyperframe → m < line_count → n < line_count
@@ -168,7 +151,7 @@ module _ (first : Cell) (begun : Begun first) (past : List Made) (sound : Sound 
       let w = on_line n fn h hf o in
       let a = sound.allowed n w.values w.is_open in
       let t = allowed_tn first n w.values a in
-      let p = line_within w.values.mask w.values.hsn w.values.maio fn (allowed_maio first n w.values a) first.length (allowed_within first n w.values a) in
+      let p = line_within w.values.mask w.values.hsn w.values.maio fn (allowed_maio first n w.values a) first.size (allowed_within first n w.values a) in
       let e = entry_arfcn (allocation first) begun.allocated (line_position w.values.mask w.values.hsn w.values.maio fn) (subst (λ (k : ℕ). line_position w.values.mask w.values.hsn w.values.maio fn < k) (sym begun.known_length) p) in
       ((le-ltb 7 (line_at cell n).tn (let q = w.in_timeslot in omega (arith, t, q)), (le-ltb 1023 (arfcn_in cell (line_at cell n) fn) (let q = w.on_arfcn in omega (arith, e, q)), (lt-leb _ _ hf, (le-ltb 1 direction hd, tt)))), tt)
 

@@ -1,6 +1,6 @@
 -- Each range and each rule of a refusal on both sides of its border, with the exact answers in plain numbers, call by call.
 -- proofs/Borders.antt computes them. Assumes nothing.
-use Rattle.std.specs.Prelude.{ℕ, ◌≡◌, Bool, true, false, List, [], ◌∷◌, ◌++◌, replicate}
+use Rattle.std.specs.Prelude.{ℕ, ◌≡◌, Bool, true, false, List, [], ◌∷◌, ◌++◌, map, replicate}
 use Rattle.std.proofs.Math.Option.{Option, none, some}
 use Rattle.answers.specs.Outcome.{Refused, Outcome, refused, accepted, alone}
 use Rattle.maps.specs.declared.Kind.TheVariants.{Sacch, Sdcch, Rach}
@@ -9,7 +9,7 @@ use Rattle.maps.specs.Rows.{from}
 use Rattle.groups.specs.declared.PagingBlock.{PagingBlock}
 use Rattle.groups.specs.Paging.{Common}
 use Rattle.rules.specs.State.{Cell, LineState, line_at}
-use Rattle.rules.specs.Calls.{start_of}
+use Rattle.rules.specs.Calls.{refused_cell, start_of, c0_alone}
 use Rattle.rules.specs.OnAir.{Slot, line_of}
 use Rattle.rules.specs.Paging.{common_of, page_of}
 use Rattle.rules.specs.Who.{who_of}
@@ -52,14 +52,14 @@ zero_line owners = record { mask = 0; tn = 0; hsn = 0; maio = 0; combination = 0
 
 -- a cell all of whose lines are closed: CA is followed by this many zeros
 abbrev pub closed_cell : List ℕ → ℕ → ℕ → ℕ → ℕ → ℕ → ℕ → Cell
-closed_cell ca zeros length c0 bcc ag p =
-    record { ca = ca ++ replicate zeros 0; length = length; c0 = c0; bcc = bcc; ag = ag; p = p; lines = replicate 64 (zero_line (replicate 8 0)) }
+closed_cell ca zeros size c0 bcc ag p =
+    record { ca = ca ++ replicate zeros 0; size = size; c0 = c0; bcc = bcc; ag = ag; p = p; lines = replicate 64 (zero_line (replicate 8 0)) }
 
 -- ---- start
 
 pub record StartBorders : Type 0 where
   -- "CA is 1 to 64 ARFCNs"
-  pub length : starts [] 0 0 0 2 ∷ starts (10 ∷ []) 10 0 0 2 ∷ starts (from 0 64) 63 0 0 2 ∷ starts (from 0 65) 0 0 0 2 ∷ []
+  pub sizes : starts [] 0 0 0 2 ∷ starts (10 ∷ []) 10 0 0 2 ∷ starts (from 0 64) 63 0 0 2 ∷ starts (from 0 65) 0 0 0 2 ∷ []
       ≡ refuses 1 ∷ none ∷ none ∷ refuses 1 ∷ []
   -- "An ARFCN is a channel number, 0 to 1023"
   pub arfcns : starts (0 ∷ []) 0 0 0 2 ∷ starts (1023 ∷ []) 1023 0 0 2 ∷ starts (1024 ∷ []) 1024 0 0 2 ∷ []
@@ -107,10 +107,11 @@ pub record OpenBorders : Type 0 where
       refusals few (opens 1 (values 1 1 0 0 0 0) ∷ opens 1 (values 1 1 0 0 3 0) ∷ opens 1 (values 1 1 0 0 8 0)
       ∷ opens 1 (values 1 1 0 0 1 0) ∷ opens 2 (values 2 1 0 0 2 0) ∷ opens 7 (values 7 1 0 0 7 0) ∷ [])
       ≡ refuses 3 ∷ refuses 3 ∷ refuses 3 ∷ none ∷ none ∷ none ∷ []
-  -- "4 mask zero, or a one at or above CA's length.": CA has three entries, so positions 0 to 2. Mask 0 gives 4 and not 5
+  -- "4 mask zero, or a one at or above CA's length.": CA has three entries, so positions 0 to 2. Mask 0 gives 4 and not 5; 2^64 + 1 has a one past the 64
   pub masks :
-      refusals few (opens 1 (values 1 0 0 0 1 0) ∷ opens 1 (values 1 8 0 0 1 0) ∷ opens 1 (values 1 9 0 0 1 0) ∷ opens 1 (values 1 4 0 0 1 0) ∷ [])
-      ≡ refuses 4 ∷ refuses 4 ∷ refuses 4 ∷ none ∷ []
+      refusals few (opens 1 (values 1 0 0 0 1 0) ∷ opens 1 (values 1 8 0 0 1 0) ∷ opens 1 (values 1 9 0 0 1 0) ∷ opens 1 (values 1 18446744073709551617 0 0 1 0)
+      ∷ opens 1 (values 1 4 0 0 1 0) ∷ [])
+      ≡ refuses 4 ∷ refuses 4 ∷ refuses 4 ∷ refuses 4 ∷ none ∷ []
   -- "5 MAIO not below N."
   pub maios :
       refusals few (opens 1 (values 1 7 0 3 1 0) ∷ opens 1 (values 1 7 0 2 1 0) ∷ opens 2 (values 2 4 0 1 1 0) ∷ opens 2 (values 2 4 0 0 1 0) ∷ [])
@@ -143,6 +144,8 @@ pub record PlaceBorders : Type 0 where
   pub five :
       refusals few (places 0 5 1 2 7 ∷ places 0 5 0 1 7 ∷ places 0 5 0 3 7 ∷ places 0 5 0 2 6 ∷ places 0 5 0 2 7 ∷ places 1 4 0 2 7 ∷ places 1 5 0 2 7 ∷ [])
       ≡ refuses 8 ∷ refuses 8 ∷ refuses 8 ∷ refuses 8 ∷ none ∷ refuses 8 ∷ refuses 8 ∷ []
+  -- "a mask with C0 alone", of the cell of ARFCN 0: its entry, and not the 0 that follows CA
+  pub c0_alone : map (c0_alone refused_cell) (0 ∷ 1 ∷ 2 ∷ 3 ∷ []) ≡ false ∷ true ∷ false ∷ false ∷ []
   -- "5 needs AG ≤ 2": the cell above has 2
   pub five_reserved : refusals reserved (places 0 5 0 2 7 ∷ []) ≡ refuses 8 ∷ []
   -- "6 needs TN 2, 4 or 6"

@@ -2,14 +2,17 @@
 use Rattle.std.specs.Prelude.{ℕ, ◌+◌, ◌-◌, Bool, not, ◌&&◌, ◌||◌, cond, List, [], ◌∷◌, ltb, eqb, length, get_or, set, Result}
 use Rattle.std.proofs.Math.Option.{Option, none, some}
 use Rattle.answers.specs.Outcome.{Refused, Outcome, refused, accepted, Cause, cause, decide}
+use Rattle.answers.specs.Ranges.{line_count, no_line, no_tn, no_hsn, no_tsc, no_bcc, no_ag, no_p, no_owner}
 use Rattle.answers.specs.Refusals.{refusal_in}
 use Rattle.answers.specs.declared.Refusal.{Refusal}
 use Rattle.answers.specs.Search.{any_below, least}
-use Rattle.hops.specs.Masks.{contains, ones, one_at_or_above}
-use Rattle.hops.specs.Allocation.{is_allocation}
+use Rattle.hops.specs.Masks.{contains, ones}
+use Rattle.hops.specs.Allocation.{allocation_cause}
+use Rattle.hops.specs.Hopping.{mask_cause, maio_cause}
 use Rattle.hops.specs.Clash.{Physical, clash}
 use Rattle.maps.specs.Combinations.{is_combination}
-use Rattle.rules.specs.State.{Cell, LineState, Values, line_count, owner_room, line_with, free, closed_line, is_open, line_at, owner_at, empty}
+use Rattle.groups.specs.Paging.{reserves_too_many}
+use Rattle.rules.specs.State.{Cell, LineState, Values, owner_room, line_with, free, closed_line, is_open, line_at, owner_at, empty}
 
 -- ---- what a call hands back
 
@@ -33,11 +36,11 @@ changed answer cell = record { refusal = refusal_in answer; cell = cell }
 abbrev pub lists : List ℕ → ℕ → Bool
 lists ca arfcn = any_below (λ k. eqb (get_or ca k 0) arfcn) (length ca)
 
--- "1 CA isn't as above. 2 C0 not in CA, or BCC, AG or P out of range." ("BCC 0–7, BS_AG_BLKS_RES (AG) 0–7, BS_PA_MFRMS (P) 2–9")
+-- "1 CA isn't as above. 2 C0 not in CA, or BCC, AG or P out of range."
 abbrev pub start_causes : List ℕ → ℕ → ℕ → ℕ → ℕ → List Cause
 start_causes ca c0 bcc ag p =
-    cause 1 (not (is_allocation ca) ∷ [])
-    ∷ cause 2 (not (lists ca c0) ∷ ltb 7 bcc ∷ ltb 7 ag ∷ ltb p 2 ∷ ltb 9 p ∷ [])
+    allocation_cause ca
+    ∷ cause 2 (not (lists ca c0) ∷ no_bcc bcc ∷ no_ag ag ∷ no_p p ∷ [])
     ∷ []
 
 -- "refused, it hands back the cell with ARFCN 0 as CA and C0, BCC and AG 0, P 2, all lines closed"
@@ -52,19 +55,11 @@ start_of ca c0 bcc ag p = step refused_cell (decide (start_causes ca c0 bcc ag p
 -- the cell with another line n
 abbrev pub with_line : Cell → ℕ → LineState → Cell
 with_line c n l =
-    record { ca = c.ca; length = c.length; c0 = c.c0; bcc = c.bcc; ag = c.ag; p = c.p; lines = set c.lines n l }
+    record { ca = c.ca; size = c.size; c0 = c.c0; bcc = c.bcc; ag = c.ag; p = c.p; lines = set c.lines n l }
 
 -- "3 line number (0 to 63), TN, HSN, combination, TSC .. out of range"
 abbrev pub open_range : ℕ → Values → List Bool
-open_range n v = ltb 63 n ∷ ltb 7 v.tn ∷ ltb 63 v.hsn ∷ not (is_combination v.combination) ∷ ltb 7 v.tsc ∷ []
-
--- "4 mask zero, or a one at or above CA's length."
-abbrev pub no_allocation : ℕ → Values → List Bool
-no_allocation length v = eqb v.mask 0 ∷ one_at_or_above v.mask length ∷ []
-
--- "5 MAIO not below N."
-abbrev pub no_maio : Values → List Bool
-no_maio v = not (ltb v.maio (ones v.mask)) ∷ []
+open_range n v = no_line n ∷ no_tn v.tn ∷ no_hsn v.hsn ∷ not (is_combination v.combination) ∷ no_tsc v.tsc ∷ []
 
 -- some line passes the test
 abbrev pub any_line : Cell → (LineState → Bool) → Bool
@@ -85,7 +80,7 @@ stands_in combination tn l = eqb l.combination combination && eqb l.tn tn
 
 -- some one of the mask stands for C0
 abbrev pub has_c0 : Cell → ℕ → Bool
-has_c0 c mask = any_below (λ p. contains mask p && eqb (get_or c.ca p 0) c.c0) 64
+has_c0 c mask = any_below (λ p. contains mask p && eqb (get_or c.ca p 0) c.c0) c.size
 
 -- "a mask with C0 alone"
 abbrev pub c0_alone : Cell → ℕ → Bool
@@ -100,7 +95,7 @@ misplaced c v =
     ∷ (is_common_combination v.combination && not (c0_alone c v.mask))
     ∷ (is_common_combination v.combination && not (eqb v.tsc c.bcc))
     ∷ ((is 4 || is 5) && any_line c is_common_line)
-    ∷ (is 5 && ltb 2 c.ag)
+    ∷ (is 5 && reserves_too_many c.ag)
     ∷ (is 6 && eqb v.tn 2 && not (any_line c (has_combination 4)))
     ∷ (is 6 && (eqb v.tn 4 || eqb v.tn 6) && not (any_line c (stands_in 6 (v.tn - 2))))
     ∷ []
@@ -128,8 +123,8 @@ clash_cause c v =
 abbrev pub open_causes : Cell → ℕ → Values → List Cause
 open_causes c n v =
     cause 3 (open_range n v)
-    ∷ cause 4 (no_allocation c.length v)
-    ∷ cause 5 (no_maio v)
+    ∷ mask_cause c.size v.mask
+    ∷ maio_cause v.mask v.maio
     ∷ cause 6 (is_open (line_at c n) ∷ [])
     ∷ cause 8 (misplaced c v)
     ∷ clash_cause c v
@@ -149,11 +144,15 @@ needed c l = (has_combination 4 l || has_combination 6 l) && any_line c (stands_
 abbrev pub some_held : LineState → Bool
 some_held l = any_below (λ s. not (eqb (owner_at l s) 0)) owner_room
 
--- "3 line number", "7 close .. on a closed line", "13 close with some s held"
+-- "7 close, seize, release or line on a closed line."
+abbrev pub closed_cause : Cell → ℕ → Cause
+closed_cause c n = cause 7 (not (is_open (line_at c n)) ∷ [])
+
+-- "3 line number (0 to 63) .. out of range", "13 close with some s held"
 abbrev pub close_causes : Cell → ℕ → List Cause
 close_causes c n =
-    cause 3 (ltb 63 n ∷ [])
-    ∷ cause 7 (not (is_open (line_at c n)) ∷ [])
+    cause 3 (no_line n ∷ [])
+    ∷ closed_cause c n
     ∷ cause 8 (needed c (line_at c n) ∷ [])
     ∷ cause 13 (some_held (line_at c n) ∷ [])
     ∷ []
@@ -162,10 +161,6 @@ unfoldable pub close_of : Cell → ℕ → Step
 close_of c n = step c (decide (close_causes c n) (with_line c n closed_line))
 
 -- ---- seize and release
-
--- "an owner 1–65,535": 0 and all above are out of range
-abbrev pub bad_owner : ℕ → Bool
-bad_owner o = eqb o 0 || ltb 65535 o
 
 -- "1 (TCH/F, s = 0)", "2 (TCH/H, s = 0, 1)", "5 (combined, s = 0 to 3)", "7 (SDCCH/8, s = 0 to 7)": how many subchannels a combination has
 abbrev pub subchannels : ℕ → ℕ
@@ -181,14 +176,17 @@ abbrev pub with_owner : LineState → ℕ → ℕ → LineState
 with_owner l s o =
     record { mask = l.mask; tn = l.tn; hsn = l.hsn; maio = l.maio; combination = l.combination; tsc = l.tsc; owners = set l.owners s o }
 
+-- what both are refused for, and then what the one or the other is: "3 line number (0 to 63), .. owner .. out of range"
+abbrev pub subchannel_causes : Cell → ℕ → ℕ → ℕ → List Cause → List Cause
+subchannel_causes c n s o more =
+    cause 3 (no_line n ∷ no_owner o ∷ [])
+    ∷ closed_cause c n
+    ∷ cause 10 (no_subchannel (line_at c n) s ∷ [])
+    ∷ more
+
 -- "11 seize of a held s."
 abbrev pub seize_causes : Cell → ℕ → ℕ → ℕ → List Cause
-seize_causes c n s o =
-    cause 3 (ltb 63 n ∷ bad_owner o ∷ [])
-    ∷ cause 7 (not (is_open (line_at c n)) ∷ [])
-    ∷ cause 10 (no_subchannel (line_at c n) s ∷ [])
-    ∷ cause 11 (not (eqb (owner_at (line_at c n) s) 0) ∷ [])
-    ∷ []
+seize_causes c n s o = subchannel_causes c n s o (cause 11 (not (eqb (owner_at (line_at c n) s) 0) ∷ []) ∷ [])
 
 -- "seize: a free s gets the owner."
 unfoldable pub seize_of : Cell → ℕ → ℕ → ℕ → Step
@@ -196,12 +194,7 @@ seize_of c n s o = step c (decide (seize_causes c n s o) (with_line c n (with_ow
 
 -- "12 release of an s that this owner doesn't hold."
 abbrev pub release_causes : Cell → ℕ → ℕ → ℕ → List Cause
-release_causes c n s o =
-    cause 3 (ltb 63 n ∷ bad_owner o ∷ [])
-    ∷ cause 7 (not (is_open (line_at c n)) ∷ [])
-    ∷ cause 10 (no_subchannel (line_at c n) s ∷ [])
-    ∷ cause 12 (not (eqb (owner_at (line_at c n) s) o) ∷ [])
-    ∷ []
+release_causes c n s o = subchannel_causes c n s o (cause 12 (not (eqb (owner_at (line_at c n) s) o) ∷ []) ∷ [])
 
 -- "release: s returns to 0."
 unfoldable pub release_of : Cell → ℕ → ℕ → ℕ → Step

@@ -55,10 +55,10 @@ StartsClosed = (ca : List ℕ) (c0 bcc ag p n : ℕ) → n < 64 → Closed (line
 pub record StandsInTheWay (v : Values) (l : LineState) : Type 0 where
   pub is_open : l.combination ≢ 0
   pub in_timeslot : l.tn ≡ v.tn
-  pub position : ℕ
-  pub below : position < 64
-  pub one : OneAt l.mask position
-  pub shared : OneAt v.mask position
+  pub ca_position : ℕ
+  pub below : ca_position < 64
+  pub one : OneAt l.mask ca_position
+  pub shared : OneAt v.mask ca_position
   pub not_apart : l.mask ≡ v.mask → l.hsn ≡ v.hsn → l.maio ≢ v.maio → ⊥
 
 -- the refusal names one line, which stands in the way, and none with a smaller number does

@@ -5,7 +5,7 @@ use Rattle.std.specs.Prelude.{ℕ, ◌<◌, ◌≡◌, Bool, true, false, not, e
 use mathlib.Core.List.{List, [], ◌∷◌, Memᴰ}
 use Rattle.std.proofs.Math.Option.{Option, none, some}
 use Rattle.answers.specs.Outcome.{Refused, accepted}
-use Rattle.clock.specs.Clock.{hyperframe}
+use Rattle.answers.specs.Ranges.{hyperframe}
 use Rattle.hops.specs.Hopping.{line_arfcn}
 use Rattle.maps.specs.Channels.{Standing}
 use Rattle.maps.specs.Combinations.{rows_of}

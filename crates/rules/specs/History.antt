@@ -2,7 +2,8 @@
 -- whether each was accepted." No cell is looked at here. Assumes nothing.
 use Rattle.std.specs.Prelude.{ℕ, Bool, true, false, ◌&&◌, cond, List, [], ◌∷◌, eqb}
 use Rattle.std.proofs.Math.Option.{Option, none, some}
-use Rattle.rules.specs.State.{Cell, LineState, Values, tabulate, line_count, line_with, closed_line}
+use Rattle.answers.specs.Ranges.{line_count}
+use Rattle.rules.specs.State.{Cell, LineState, Values, tabulate, line_with, closed_line}
 
 -- a call with its arguments: the line, then the six values, or the subchannel and the owner
 pub data Call : Type 0 where
@@ -83,4 +84,4 @@ line_or (some v) owners = line_with v owners
 -- call."
 unfoldable pub cell_from : Cell → List Made → Cell
 cell_from first past =
-    record { ca = first.ca; length = first.length; c0 = first.c0; bcc = first.bcc; ag = first.ag; p = first.p; lines = tabulate line_count (λ n. line_or (opened_with past n) (held_by past n)) }
+    record { ca = first.ca; size = first.size; c0 = first.c0; bcc = first.bcc; ag = first.ag; p = first.p; lines = tabulate line_count (λ n. line_or (opened_with past n) (held_by past n)) }

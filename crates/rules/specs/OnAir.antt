@@ -1,11 +1,12 @@
 -- What a line sends in a frame: document 01, "line(number, FN, direction)". Assumes nothing.
-use Rattle.std.specs.Prelude.{ℕ, not, cond, List, [], ◌∷◌, ltb, leb, get_or}
+use Rattle.std.specs.Prelude.{ℕ, cond, List, [], ◌∷◌, get_or}
 use Rattle.answers.specs.Outcome.{Outcome, refused, accepted, Cause, cause, decide}
-use Rattle.clock.specs.Clock.{hyperframe}
+use Rattle.answers.specs.Ranges.{no_line, no_fn, no_direction}
 use Rattle.hops.specs.Hopping.{position_of}
 use Rattle.maps.specs.Channels.{Standing, is_common}
 use Rattle.maps.specs.Map.{map_of}
-use Rattle.rules.specs.State.{Cell, LineState, is_open, line_at, owner_at}
+use Rattle.rules.specs.State.{Cell, LineState, line_at, owner_at}
+use Rattle.rules.specs.Calls.{closed_cause}
 
 -- "the ARFCN, and idle or the channel with s, blocks, places and owner": the list is empty for idle
 pub record Slot : Type 0 where
@@ -20,7 +21,7 @@ entry_at ca (accepted p) = get_or ca p 0
 
 -- the ARFCN of line l in a frame
 abbrev pub arfcn_in : Cell → LineState → ℕ → ℕ
-arfcn_in c l fn = entry_at c.ca (position_of c.length l.mask l.hsn l.maio fn)
+arfcn_in c l fn = entry_at c.ca (position_of c.size l.mask l.hsn l.maio fn)
 
 -- what the map has. The calls hand back no cell with an open line that the map refuses; were there one, it would be idle
 abbrev pub in_frame : Outcome (List Standing) → List Standing
@@ -37,12 +38,9 @@ unfoldable pub slot_of : Cell → LineState → ℕ → ℕ → Slot
 slot_of c l fn direction =
     record { arfcn = arfcn_in c l fn; standing = in_frame (map_of l.combination l.tn fn direction); owner = owner_of (owner_at l) (in_frame (map_of l.combination l.tn fn direction)) }
 
--- "3 line number (0 to 63), .. FN, direction (0 D, 1 U) .. out of range", "7 .. line on a closed line"
+-- "3 line number (0 to 63), .. FN, direction (0 D, 1 U) .. out of range"
 abbrev pub line_causes : Cell → ℕ → ℕ → ℕ → List Cause
-line_causes c n fn direction =
-    cause 3 (ltb 63 n ∷ leb hyperframe fn ∷ ltb 1 direction ∷ [])
-    ∷ cause 7 (not (is_open (line_at c n)) ∷ [])
-    ∷ []
+line_causes c n fn direction = cause 3 (no_line n ∷ no_fn fn ∷ no_direction direction ∷ []) ∷ closed_cause c n ∷ []
 
 unfoldable pub line_of : Cell → ℕ → ℕ → ℕ → Outcome Slot
 line_of c n fn direction = decide (line_causes c n fn direction) (slot_of c (line_at c n) fn direction)

@@ -1,5 +1,6 @@
 -- The state of a cell: document 01, "The cell and its calls". Assumes nothing.
 use Rattle.std.specs.Prelude.{ℕ, zero, suc, Bool, not, List, [], ◌∷◌, eqb, length, get_or, take}
+use Rattle.answers.specs.Ranges.{line_count}
 pub use Rattle.rules.specs.declared.Values.{Values}
 pub use Rattle.rules.specs.declared.Parameters.{Parameters}
 
@@ -13,11 +14,11 @@ pub record LineState : Type 0 where
   pub tsc : ℕ
   pub owners : List ℕ
 
--- "A cell is CA, C0 (an ARFCN of CA), BCC 0–7, BS_AG_BLKS_RES (AG) 0–7, BS_PA_MFRMS (P) 2–9, and 64 lines." CA is the first `length` entries of
+-- "A cell is CA, C0 (an ARFCN of CA), BCC 0–7, BS_AG_BLKS_RES (AG) 0–7, BS_PA_MFRMS (P) 2–9, and 64 lines." CA is the first `size` entries of
 -- `ca`, and 0 follows them
 pub record Cell : Type 0 where
   pub ca : List ℕ
-  pub length : ℕ
+  pub size : ℕ
   pub c0 : ℕ
   pub bcc : ℕ
   pub ag : ℕ
@@ -28,10 +29,6 @@ pub record Cell : Type 0 where
 unfoldable pub tabulate : {A : Type 0} → ℕ → (ℕ → A) → List A
 tabulate zero f = []
 tabulate (suc n) f = f 0 ∷ tabulate n (λ k. f (suc k))
-
--- "and 64 lines"
-abbrev pub line_count : ℕ
-line_count = 64
 
 -- how many owners a line has room for: no combination has more subchannels
 abbrev pub owner_room : ℕ
@@ -73,9 +70,9 @@ owner_at l s = get_or l.owners s 0
 
 -- the cell allocation
 abbrev pub allocation : Cell → List ℕ
-allocation c = take c.length c.ca
+allocation c = take c.size c.ca
 
 -- "start: all lines closed": a cell with this CA, C0, BCC, AG and P
 unfoldable pub empty : List ℕ → ℕ → ℕ → ℕ → ℕ → Cell
 empty ca c0 bcc ag p =
-    record { ca = tabulate 64 (λ k. get_or ca k 0); length = length ca; c0 = c0; bcc = bcc; ag = ag; p = p; lines = tabulate line_count (λ n. closed_line) }
+    record { ca = tabulate 64 (λ k. get_or ca k 0); size = length ca; c0 = c0; bcc = bcc; ag = ag; p = p; lines = tabulate line_count (λ n. closed_line) }

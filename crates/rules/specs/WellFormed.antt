@@ -11,16 +11,16 @@ use Rattle.rules.specs.Reached.{Reached}
 pub record HasParameters (c : Cell) : Type 0 where
   -- "CA is 1 to 64 ARFCNs": its entries, and 0 after them
   pub room : length c.ca ≡ 64
-  pub least : 1 ≤ c.length
-  pub most : c.length ≤ 64
-  pub past : (k : ℕ) → c.length ≤ k → get_or c.ca k 0 ≡ 0
+  pub least : 1 ≤ c.size
+  pub most : c.size ≤ 64
+  pub past : (k : ℕ) → c.size ≤ k → get_or c.ca k 0 ≡ 0
   -- "An ARFCN is a channel number, 0 to 1023"
-  pub arfcn : (k : ℕ) → k < c.length → get_or c.ca k 0 ≤ 1023
+  pub arfcn : (k : ℕ) → k < c.size → get_or c.ca k 0 ≤ 1023
   -- "strictly ascending"
-  pub ascending : (j k : ℕ) → j < k → k < c.length → get_or c.ca j 0 < get_or c.ca k 0
+  pub ascending : (j k : ℕ) → j < k → k < c.size → get_or c.ca j 0 < get_or c.ca k 0
   -- "C0 (an ARFCN of CA)"
   pub c0 : ℕ
-  pub c0_within : c0 < c.length
+  pub c0_within : c0 < c.size
   pub c0_there : get_or c.ca c0 0 ≡ c.c0
   pub bcc : c.bcc ≤ 7
   pub ag : c.ag ≤ 7
@@ -56,10 +56,10 @@ pub record Opened (c : Cell) (l : LineState) : Type 0 where
   pub tsc : l.tsc ≤ 7
   pub combination : (l.combination ≡ 1) ⊎ (l.combination ≡ 2) ⊎ (l.combination ≡ 4) ⊎ (l.combination ≡ 5) ⊎ (l.combination ≡ 6) ⊎ (l.combination ≡ 7)
   -- "A mobile allocation is a 64-bit mask; bit p .. stands for CA position p.": it has a one, and none at or above CA's length
-  pub position : ℕ
-  pub there : position < c.length
-  pub one : OneAt l.mask position
-  pub within : (p : ℕ) → p < 64 → OneAt l.mask p → p < c.length
+  pub ca_position : ℕ
+  pub there : ca_position < c.size
+  pub one : OneAt l.mask ca_position
+  pub within : (p : ℕ) → OneAt l.mask p → p < c.size
   -- "N is the count of its ones, .. MAIO is 0 to N − 1."
   pub maio : l.maio < ones l.mask
   pub owners : HasOwners l
@@ -95,7 +95,7 @@ pub record HasPlaces (c : Cell) : Type 0 where
   pub six : (n : ℕ) → Is c n 6
       → (((line_at c n).tn ≡ 2) × Stands c 4 0) ⊎ (((line_at c n).tn ≡ 4) × Stands c 6 2) ⊎ (((line_at c n).tn ≡ 6) × Stands c 6 4)
   -- "these three need a mask with C0 alone and TSC = BCC"
-  pub beacon : (n p : ℕ) → IsCommon c n → p < 64 → OneAt (line_at c n).mask p → get_or c.ca p 0 ≡ c.c0
+  pub beacon : (n p : ℕ) → IsCommon c n → OneAt (line_at c n).mask p → get_or c.ca p 0 ≡ c.c0
   pub tsc : (n : ℕ) → IsCommon c n → (line_at c n).tsc ≡ c.bcc
 
 -- "Two lines clash if TN is equal, the masks share a one, and it isn't so that masks and HSN are equal and MAIO differ"

@@ -1,10 +1,10 @@
 -- Who is on the air: document 01, "who(TN, ARFCN, FN, direction)". Assumes nothing.
-use Rattle.std.specs.Prelude.{ℕ, Bool, ◌&&◌, cond, List, [], ◌∷◌, ltb, leb, eqb}
+use Rattle.std.specs.Prelude.{ℕ, Bool, ◌&&◌, cond, List, [], ◌∷◌, eqb}
 use Rattle.std.proofs.Math.Option.{Option, none, some}
-use Rattle.answers.specs.Outcome.{Outcome, refused, accepted, Cause, cause, decide}
+use Rattle.answers.specs.Outcome.{Outcome, Cause, cause, decide}
+use Rattle.answers.specs.Ranges.{line_count, no_tn, no_arfcn, no_fn, no_direction}
 use Rattle.answers.specs.Search.{any_below, least}
-use Rattle.clock.specs.Clock.{hyperframe}
-use Rattle.rules.specs.State.{Cell, LineState, line_count, is_open, line_at}
+use Rattle.rules.specs.State.{Cell, LineState, is_open, line_at}
 use Rattle.rules.specs.OnAir.{Slot, arfcn_in, slot_of}
 
 -- line l is an "open line of that TN" and "has that ARFCN in that frame"
@@ -25,7 +25,7 @@ match_at c n fn direction = record { line = n; slot = slot_of c (line_at c n) fn
 
 -- "3 .. TN, .. FN, direction (0 D, 1 U) or ARFCN out of range"
 abbrev pub who_causes : ℕ → ℕ → ℕ → ℕ → List Cause
-who_causes tn arfcn fn direction = cause 3 (ltb 7 tn ∷ ltb 1023 arfcn ∷ leb hyperframe fn ∷ ltb 1 direction ∷ []) ∷ []
+who_causes tn arfcn fn direction = cause 3 (no_tn tn ∷ no_arfcn arfcn ∷ no_fn fn ∷ no_direction direction ∷ []) ∷ []
 
 -- "nobody exactly if no open line of that TN has that ARFCN in that frame". The calls hand back no cell in which two lines have it (Reached.antt);
 -- were there one, this would be the line with the smaller number
@@ -35,9 +35,3 @@ match_of c tn arfcn fn direction =
 
 unfoldable pub who_of : Cell → ℕ → ℕ → ℕ → ℕ → Outcome (Option Match)
 who_of c tn arfcn fn direction = decide (who_causes tn arfcn fn direction) (match_of c tn arfcn fn direction)
-
--- the number of the line, where one is found: its answer is `line`'s
-abbrev pub line_found : Outcome (Option Match) → Outcome (Option ℕ)
-line_found (refused r) = refused r
-line_found (accepted none) = accepted none
-line_found (accepted (some f)) = accepted (some f.line)

@@ -89,7 +89,7 @@ module _ (words : List ℕ) (n : ℕ) where
   -- with another line past the last one, or another owner past the last subchannel, the cell is the same
   abbrev with_lines : List LineState → Cell
   with_lines lines =
-      record { ca = (cell_of words).ca; length = (cell_of words).length; c0 = (cell_of words).c0; bcc = (cell_of words).bcc; ag = (cell_of words).ag; p = (cell_of words).p; lines = lines }
+      record { ca = (cell_of words).ca; size = (cell_of words).size; c0 = (cell_of words).c0; bcc = (cell_of words).bcc; ag = (cell_of words).ag; p = (cell_of words).p; lines = lines }
 
   pub no_such_line : (l : LineState) → 63 < n → cell_of words ≡ with_line (cell_of words) n l
   unfolding cell_of
@@ -347,7 +347,7 @@ module _ (v w : List ℕ) (sv : Stored v) (sw : Stored w) (e : cell_of v ≡ cel
 
   five_words : (i : ℕ) → i < 5 → word v (64 + i) ≡ word w (64 + i)
   unfolding cell_of
-  five_words zero b = ap (λ (c : Cell). c.length) e
+  five_words zero b = ap (λ (c : Cell). c.size) e
   five_words (suc zero) b = ap (λ (c : Cell). c.c0) e
   five_words (suc (suc zero)) b = ap (λ (c : Cell). c.bcc) e
   five_words (suc (suc (suc zero))) b = ap (λ (c : Cell). c.ag) e

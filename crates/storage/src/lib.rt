@@ -54,7 +54,7 @@ pub fn entry(cell: &[u32; WORDS], position: u32) -> u32
 
 #[tactic(auto, unfolding(crate::specs::Words::cell_of))]
 pub fn length(cell: &[u32; WORDS]) -> u32
-    ensures { result ≡ (cell_of cell.now).length }
+    ensures { result ≡ (cell_of cell.now).size }
 {
     cell[LENGTH_PLACE]
 }

@@ -14,7 +14,7 @@ use Rattle.maps.specs.Channels.{Standing}
 use Rattle.maps.specs.Rows.{Row, numbered, each, from, standing}
 use Rattle.maps.specs.Combinations.{full_rate, half_rate, uncombined, combined, additional, sdcch8, combinations, rows_among, rows_of}
 use Rattle.maps.specs.Numbers.{standing_numbers, bytes}
-use Rattle.tables.specs.Codes.{code_of, control_word, spread_of, traffic_word, sacch_bytes}
+use Rattle.tables.specs.Helpers.{code_of, control_word, spread_of, traffic_word, sacch_bytes}
 use Rattle.maps.proofs.Repeat.{repeats, standing_mod, all_frames, every_frame}
 
 -- the bytes of what stands in a frame

@@ -1,7 +1,7 @@
 -- What the tables' arms are checked by: each computes at its literal key. Assumes nothing.
 use Rattle.std.specs.Prelude.{⊤}
 use Rattle.std.proofs.Common.{◌≡◌, ℕ, zero, suc, ◌+◌, ◌*◌, ◌/◌, ◌%◌, ◌∙◌, ap, arith}
-use Rattle.tables.specs.Codes.{control_word, code_of}
+use Rattle.tables.specs.Helpers.{control_word, code_of}
 use Rattle.maps.specs.Rows.{numbered, each, from, standing}
 use Rattle.maps.specs.Combinations.{full_rate, half_rate, uncombined, combined, additional, sdcch8, combinations, rows_among, rows_of}
 use Rattle.maps.specs.Numbers.{standing_numbers}

@@ -1,1 +1,1 @@
-pub mod Codes
+pub mod Helpers

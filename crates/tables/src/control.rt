@@ -1,6 +1,6 @@
 // Combinations 4 to 7, from a table of all their frames: 102 frames, after which each of them repeats, for each combination and direction.
 ghost use Rattle.std.specs.Prelude.{◌≡◌, cond, ◌<◌, ◌+◌, ◌%◌};
-ghost use Rattle.tables.specs.Codes.{control_word, spread_of};
+ghost use Rattle.tables.specs.Helpers.{control_word, spread_of};
 ghost use Rattle.maps.specs.Combinations.{rows_of};
 ghost use Rattle.maps.specs.Numbers.{standing_numbers, bytes};
 ghost use Rattle.maps.specs.Rows.{standing};
@@ -242,7 +242,7 @@ fn choose(first: bool, a: u64, b: u64) -> u64
 }
 
 // The digits of a frame as bytes.
-#[tactic(auto, unfolding(crate::specs::Codes::spread_of))]
+#[tactic(auto, unfolding(crate::specs::Helpers::spread_of))]
 fn spread(code: u64) -> u64
     ensures { result ≡ spread_of code }
 {

@@ -1,6 +1,6 @@
 // Combinations 1 and 2, from a table of the 26 frames h. SACCH, which differs between timeslots, is computed.
 ghost use Rattle.std.specs.Prelude.{◌≡◌, ◌<◌, ◌+◌, ◌/◌, ◌%◌};
-ghost use Rattle.tables.specs.Codes.{traffic_word, sacch_bytes};
+ghost use Rattle.tables.specs.Helpers.{traffic_word, sacch_bytes};
 ghost use Rattle.maps.specs.Combinations.{rows_of};
 ghost use Rattle.maps.specs.Numbers.{standing_numbers, bytes};
 ghost use Rattle.maps.specs.Rows.{standing};
@@ -8,7 +8,7 @@ ghost use Rattle.maps.specs.Rows.{standing};
 // The bytes of timeslot 0 in each h, from the last to the first: the refusal, channel, subchannel, how many blocks, block and place, and block and
 // place of the second. Each key has an arm, those of SACCH too, which `traffic` never asks for: so the compiler makes a table of it, where
 // an array would be copied to the stack in each call.
-#[tactic(auto, unfolding(crate::specs::Codes::traffic_word, crate::proofs::Words::at_a_frame))]
+#[tactic(auto, unfolding(crate::specs::Helpers::traffic_word, crate::proofs::Words::at_a_frame))]
 fn traffic_word(key: u32) -> u64
     requires { key < 52 }
     ensures { result ≡ traffic_word key }
@@ -75,7 +75,7 @@ fn traffic_word(key: u32) -> u64
 // The frames h = 12 (half 0) and h = 25 (half 1): half rate (1) has SACCH of its two subchannels, full rate (0) has SACCH at 12 in an even
 // timeslot and at 25 in an odd one. In each pair of timeslots the places stand 26 frames later than in the pair before. Both are numbers, as
 // the bytes are computed from them.
-#[tactic(auto, unfolding(crate::specs::Codes::sacch_bytes))]
+#[tactic(auto, unfolding(crate::specs::Helpers::sacch_bytes))]
 fn sacch(rate: u32, tn: u32, turn: u32, half: u32) -> u64
     requires { (rate < 2) × ((turn < 4) × (half < 2)) }
     ensures { result ≡ sacch_bytes rate tn turn half }

@@ -6,9 +6,10 @@ use mathlib.Core.Path.{◌≡◌, refl, ap, ◌∙◌}
 use mathlib.Core.Option.{Option, none, some}
 use borrow.Author.Tests.{lt-ltb}
 use Rattle.answers.specs.Outcome.{refused, accepted, alone}
+use Rattle.answers.specs.Ranges.{hyperframe}
 use Rattle.answers.proofs.Decide.{stops}
 use Rattle.clock.specs.declared.Frame.{Frame}
-use Rattle.clock.specs.Clock.{hyperframe, parts_of, prime_of, number_of, split_of, join_of}
+use Rattle.clock.specs.Clock.{parts_of, prime_of, number_of, split_of, join_of}
 use Rattle.clock.proofs.RoundTrip.{split_accepts, split_refuses, join_accepts, join_undoes_split, split_undoes_join}
 use Rattle.c_answers.specs.declared.TdmaSplit.{TdmaSplit}
 use Rattle.c_answers.specs.declared.TdmaJoin.{TdmaJoin}

@@ -1,6 +1,5 @@
 pub mod Lent
 pub mod Numbers
-pub mod Sought
 pub mod ThirdDemand
 pub mod ClockOfC
 pub mod BurstsOfC

@@ -33,10 +33,10 @@ pub record ClockOfC : Type 0 where
 -- ---- "burst to payload and back": tdma_build_.. and tdma_take_..
 
 -- whatever was lent: r and s are the answers of two calls, one after the other, and the bytes are what those left
-pub record UndoEachOtherOfC (build take : Call) : Type 0 where
-  pub take_undoes_build : (payload before burst lent after : List ℕ) (r s : TdmaAnswer) → Wrote r burst (build payload before) → Wrote s after (take burst lent)
+pub record UndoEachOtherOfC (building taking : Call) : Type 0 where
+  pub take_undoes_build : (payload before burst lent after : List ℕ) (r s : TdmaAnswer) → Wrote r burst (building payload before) → Wrote s after (taking burst lent)
       → r.refusal ≡ 0 → length lent ≡ length payload → (s.refusal ≡ 0) × (after ≡ payload)
-  pub build_undoes_take : (burst before payload lent after : List ℕ) (r s : TdmaAnswer) → Wrote r payload (take burst before) → Wrote s after (build payload lent)
+  pub build_undoes_take : (burst before payload lent after : List ℕ) (r s : TdmaAnswer) → Wrote r payload (taking burst before) → Wrote s after (building payload lent)
       → r.refusal ≡ 0 → length lent ≡ length burst → (s.refusal ≡ 0) × (after ≡ burst)
 
 pub record BurstsOfC : Type 0 where

@@ -3,7 +3,7 @@
 use Rattle.std.specs.Prelude.{ℕ, ◌<◌, ◌≡◌, List, [], ◌∷◌, eqb}
 use Rattle.std.proofs.Math.Option.{some}
 use Rattle.answers.specs.Outcome.{accepted}
-use Rattle.clock.specs.Clock.{hyperframe}
+use Rattle.answers.specs.Ranges.{hyperframe}
 use Rattle.rules.specs.State.{Cell}
 use Rattle.rules.specs.declared.Values.{Values}
 use Rattle.storage.specs.Words.{cell_of}
