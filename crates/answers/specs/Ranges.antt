@@ -20,9 +20,12 @@ no_direction direction = ltb 1 direction
 abbrev pub no_arfcn : ℕ → Bool
 no_arfcn arfcn = ltb 1023 arfcn
 
--- "The cell allocation CA is 1 to 64 ARFCNs": no list of so many is one
+-- "The cell allocation CA is 1 to 64 ARFCNs": room for so many, and what is no CA's length
+abbrev pub ca_room : ℕ
+ca_room = 64
+
 abbrev pub no_size : ℕ → Bool
-no_size size = eqb size 0 || ltb 64 size
+no_size size = eqb size 0 || ltb ca_room size
 
 -- "HSN is 0 to 63"
 abbrev pub no_hsn : ℕ → Bool

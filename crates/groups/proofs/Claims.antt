@@ -102,7 +102,7 @@ module _ (c : Common) (digits : List ℕ) (fn : ℕ) (free : NoCause (paging_cau
         has_groups = has_groups;
         timeslot = tn_is;
         common_line = placed c.combined (timeslot c i) (λ e. let k = alone_five e in omega (arith, k, turned)) tn_is;
-        a_five = λ e. (alone_five e, ap (λ (b : Bool). common_in b (timeslot c i)) e);
+        a_five = alone_five;
         group = group_of c i has_groups some_line;
         first = record { after = wait c i fn; is_later = refl; within = f.within; begins = f.begins; none_before = f.none_before };
         past_turn = blocks.past_turn c i fn has_groups small frame_below;

@@ -37,7 +37,8 @@ pub record FirstFrame (c : Common) (i fn frame : ℕ) : Type 0 where
   pub begins : is_paged c i frame ≡ true
   pub none_before : (d : ℕ) → d < after → is_paged c i (later fn d) ≡ false
 
--- the frames of a multiframe in which the CCCH blocks begin: "CCCH blocks 0–8 at 6.., 12.., 16.., 22.., 26.., 32.., 36.., 42.., 46.."
+-- the frames of a multiframe in which the CCCH blocks begin, in plain numbers: "CCCH blocks 0–8 at 6.., 12.., 16.., 22.., 26.., 32.., 36.., 42..,
+-- 46.." (the definition, `begins`, goes by the rows of the map)
 abbrev pub starts : List ℕ
 starts = 6 ∷ 12 ∷ 16 ∷ 22 ∷ 26 ∷ 32 ∷ 36 ∷ 42 ∷ 46 ∷ []
 
@@ -50,9 +51,9 @@ pub record Answered (c : Common) (i fn : ℕ) (b : PagingBlock) : Type 0 where
   -- "n = A × P" is above 0, so that the phone has a group
   pub has_groups : 0 < n c
   pub timeslot : (b.tn ≡ 0) ⊎ (b.tn ≡ 2) ⊎ (b.tn ≡ 4) ⊎ (b.tn ≡ 6)
-  -- what `common_in` says of the common line in that TN is so: its combination may stand there, and a 5 is the only common line
+  -- what `common_in` says of the common line in that TN is so: its combination may stand there; and a 5 is the only common line
   pub common_line : MayStand (common_in c.combined b.tn) b.tn
-  pub a_five : c.combined ≡ true → (c.K ≡ 1) × (common_in c.combined b.tn ≡ 5)
+  pub a_five : c.combined ≡ true → c.K ≡ 1
   pub group : Group c i
   pub first : FirstFrame c i fn b.frame
   -- where no frame up to the turn is the phone's, its frame is in multiframe G div A, whether or not P divides the 53,248 multiframes

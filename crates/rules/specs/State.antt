@@ -1,6 +1,6 @@
 -- The state of a cell: document 01, "The cell and its calls". Assumes nothing.
 use Rattle.std.specs.Prelude.{ℕ, zero, suc, Bool, not, List, [], ◌∷◌, eqb, length, get_or, take}
-use Rattle.answers.specs.Ranges.{line_count}
+use Rattle.answers.specs.Ranges.{ca_room, line_count}
 pub use Rattle.rules.specs.declared.Values.{Values}
 pub use Rattle.rules.specs.declared.Parameters.{Parameters}
 
@@ -75,4 +75,4 @@ allocation c = take c.size c.ca
 -- "start: all lines closed": a cell with this CA, C0, BCC, AG and P
 unfoldable pub empty : List ℕ → ℕ → ℕ → ℕ → ℕ → Cell
 empty ca c0 bcc ag p =
-    record { ca = tabulate 64 (λ k. get_or ca k 0); size = length ca; c0 = c0; bcc = bcc; ag = ag; p = p; lines = tabulate line_count (λ n. closed_line) }
+    record { ca = tabulate ca_room (λ k. get_or ca k 0); size = length ca; c0 = c0; bcc = bcc; ag = ag; p = p; lines = tabulate line_count (λ n. closed_line) }

@@ -5,7 +5,7 @@ ghost use Rattle.std.specs.Prelude.{◌≡◌, ◌<◌};
 ghost use Rattle.hops.specs.Masks.{ones_below};
 ghost use Rattle.select.specs.Helpers.{select_of};
 
-// How many of the mask's ones stand below bit p. The shift leaves those alone; an AND with p ones would take the machine a step more.
+// How many of the mask's ones stand below bit p. The shift keeps only these; an AND with p ones would take the machine a step more.
 #[tactic(auto, using(hops::proofs::Bits::ones_shifted_up))]
 fn ones_below(mask: u64, p: u32) -> u32
     requires { (0 < p) × (p < 64) }

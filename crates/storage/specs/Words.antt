@@ -1,6 +1,6 @@
 -- The words that hold a cell: storage that the caller lends, and only the calls look into. Assumes nothing.
 use Rattle.std.specs.Prelude.{ℕ, ◌+◌, ◌*◌, ◌^◌, ◌<◌, ◌≡◌, List, length, get_or}
-use Rattle.answers.specs.Ranges.{line_count}
+use Rattle.answers.specs.Ranges.{ca_room, line_count}
 use Rattle.rules.specs.State.{LineState, Cell, tabulate, owner_room}
 
 abbrev pub word : List ℕ → ℕ → ℕ
@@ -21,7 +21,7 @@ line_in words n =
 -- the cell that the words hold
 unfoldable pub cell_of : List ℕ → Cell
 cell_of words =
-    record { ca = tabulate 64 (word words); size = word words 64; c0 = word words 65; bcc = word words 66; ag = word words 67; p = word words 68; lines = tabulate line_count (line_in words) }
+    record { ca = tabulate ca_room (word words); size = word words 64; c0 = word words 65; bcc = word words 66; ag = word words 67; p = word words 68; lines = tabulate line_count (line_in words) }
 
 -- the storage of a cell: 1,029 words of 32 bits
 pub record Stored (words : List ℕ) : Type 0 where

@@ -1,4 +1,4 @@
--- What the code's helpers compute: no part of what is promised. Assumes nothing.
+-- What the helpers of the code compute. No part of what is promised to a caller. Assumes nothing.
 use Rattle.std.specs.Prelude.{ℕ, ◌+◌, ◌-◌, ◌*◌, ◌/◌, ◌%◌, cond, not, ◌&&◌, List, [], ◌∷◌, eqb}
 use Rattle.std.specs.Int.Bits.{bit_and}
 use Rattle.maps.specs.Channels.{Standing, kind_number}

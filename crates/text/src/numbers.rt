@@ -56,7 +56,7 @@ pub fn numbers<const N: usize>(line: &[u8]) -> Result<([u64; N], &[u8]), Reason>
 pub fn only<const N: usize>(line: &[u8]) -> Result<[u64; N], Reason>
     ensures { result ≡ only_of N (words_of line.now) }
 {
-    // By a match, since `?` of an array of N beside a slice has no proof yet.
+    // By a match, since the borrow checker does not take `?` of an array of N beside a slice.
     let (values, rest) = match numbers::<N>(line) {
         Ok(found) => found,
         Err(reason) => return Err(reason),

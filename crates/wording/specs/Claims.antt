@@ -17,7 +17,7 @@ pub record FirstWord : Type 0 where
   pub whole : (line w rest : List ℕ) → first_word line ≡ Some (w, rest) → (n : ℕ) × (replicate n 32 ++ (w ++ rest) ≡ line)
   pub shorter : (line w rest : List ℕ) → first_word line ≡ Some (w, rest) → length rest < length line
 
--- the first line has no newline, and one stands behind it; a text of which there is none has no newline
+-- the first line has no newline, and one stands behind it; a text without a first line has no newline
 pub record FirstLine : Type 0 where
   pub line : (text l rest : List ℕ) → first_line text ≡ Some (l, rest) → l ≡ until 10 text
   pub no_line : (text : List ℕ) → first_line text ≡ None → text ≡ until 10 text
