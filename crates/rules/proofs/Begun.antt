@@ -1,7 +1,7 @@
 -- The cell that start hands back, accepted or refused: its CA is a cell allocation with C0 in it, BCC, AG and P are in range, and it is what an
 -- empty history says. Assumes nothing.
 use Prim.Native.Nat.{ℕ, ◌≤◌, ◌<◌}
-use mathlib.Core.Path.{◌≡◌, refl, ap, ◌∙◌, subst}
+use mathlib.Core.Path.{◌≡◌, refl, sym, ap, ◌∙◌, subst}
 use mathlib.Core.Bool.{true, false}
 use mathlib.Core.List.{List, [], ◌∷◌}
 use native.Mathlib.Decide.{dec_lt}
@@ -72,6 +72,14 @@ module _ (ca : List ℕ) (c0 bcc ag p : ℕ) (h : is_allocation ca ≡ true) (r 
 -- CA has the length of one
 pub begun_size : (first : Cell) → Begun first → no_size first.size ≡ false
 begun_size first b = subst (λ (n : ℕ). no_size n ≡ false) b.known_length (sized (allocation first) b.allocated)
+
+-- a position below the size is one of the allocation, and a bit of a mask
+module _ (first : Cell) (b : Begun first) (k : ℕ) (l : k < first.size) where
+  pub in_allocation : k < length (allocation first)
+  in_allocation = subst (λ (i : ℕ). k < i) (sym b.known_length) l
+
+  pub below_64 : k < 64
+  below_64 = omega (arith, at_most_64 (allocation first) b.allocated, in_allocation)
 
 zero_allocation : is_allocation (0 ∷ []) ≡ true
 unfolding is_allocation all_below

@@ -25,7 +25,7 @@ use Rattle.rules.specs.Calls.{physical, subchannels, has_c0, is_common_combinati
 use Rattle.rules.specs.History.{Made, opened_with, held_by, line_or, cell_from}
 use Rattle.rules.specs.WellFormed.{HasParameters, Closed, OneAt, HasOwners, Opened, Is, IsFirst, IsCommon, Stands, HasPlaces, Apart, WellFormed, CellsAreWellFormed}
 use Rattle.rules.proofs.Tabulate.{tabulate_at, tabulate_length}
-use Rattle.rules.proofs.Begun.{Begun, Filled}
+use Rattle.rules.proofs.Begun.{Begun, Filled, in_allocation, below_64}
 use Rattle.rules.proofs.AsListed.{line_listed}
 use Rattle.rules.proofs.Sound.{Allowed, allowed_combination, allowed_tn, allowed_hsn, allowed_tsc, allowed_within, allowed_maio, Sound, open_line}
 use Rattle.rules.proofs.Places.{four_common, five_common, six_common, Place, Lower, Placed}
@@ -91,9 +91,6 @@ module _ (first : Cell) (begun : Begun first) (filled : Filled first) (past : Li
       let z = eqb-false (length (allocation first)) 0 (or_none_left (eqb (length (allocation first)) 0) _ (sized (allocation first) begun.allocated)) in
       omega (arith, z)
 
-  in_allocation : (k : ℕ) → k < first.size → k < length (allocation first)
-  in_allocation k l = subst (λ (i : ℕ). k < i) (sym begun.known_length) l
-
   entry : (k : ℕ) → k < first.size → get_or (allocation first) k 0 ≡ get_or first.ca k 0
   entry k l = get_or-take first.size first.ca k 0 l
 
@@ -112,8 +109,8 @@ module _ (first : Cell) (begun : Begun first) (filled : Filled first) (past : Li
         least = subst (λ (i : ℕ). 1 ≤ i) begun.known_length at_least_1;
         most = subst (λ (i : ℕ). i ≤ 64) begun.known_length (at_most_64 (allocation first) begun.allocated);
         past = filled.past_length;
-        arfcn = λ k l. let a = entry_arfcn (allocation first) begun.allocated k (in_allocation k l) in let e = entry k l in omega arith;
-        ascending = λ j k o l. let a = ascends (allocation first) begun.allocated j k o (in_allocation k l) in let d : j < first.size = omega arith in let e = entry j d in let f = entry k l in omega arith;
+        arfcn = λ k l. let a = entry_arfcn (allocation first) begun.allocated k (in_allocation first begun k l) in let e = entry k l in omega arith;
+        ascending = λ j k o l. let a = ascends (allocation first) begun.allocated j k o (in_allocation first begun k l) in let d : j < first.size = omega arith in let e = entry j d in let f = entry k l in omega arith;
         c0 = c0_first.place;
         c0_within = c0_below;
         c0_there = sym (entry c0_first.place c0_below) ∙ eqb-true _ _ c0_first.passes;
@@ -352,12 +349,9 @@ module _ (first : Cell) (begun : Begun first) (filled : Filled first) (past : Li
       one : OneAt v.mask p
       one = ap (λ (x : LineState). x.mask / 2 ^ p % 2) (sym w.line.is) ∙ o
 
-      below_64 : (k : ℕ) → k < first.size → k < 64
-      below_64 k l = let m = at_most_64 (allocation first) begun.allocated in let q = in_allocation k l in omega (arith, m, q)
-
       here : First test first.size → get_or first.ca p 0 ≡ first.c0
       here f =
-          let q = one_position v.mask p f.place (eqb-true _ _ (and_left (eqb (ones v.mask) 1) _ alone_there)) (below_64 p (within_ca n v w.line.is_open p one)) (below_64 f.place f.below) one (contains_bit v.mask f.place (and_left (contains v.mask f.place) _ f.passes)) in
+          let q = one_position v.mask p f.place (eqb-true _ _ (and_left (eqb (ones v.mask) 1) _ alone_there)) (below_64 first begun p (within_ca n v w.line.is_open p one)) (below_64 first begun f.place f.below) one (contains_bit v.mask f.place (and_left (contains v.mask f.place) _ f.passes)) in
           ap (λ (i : ℕ). get_or first.ca i 0) q ∙ eqb-true _ _ (and_right (contains v.mask f.place) _ f.passes)
 
   training : (n : ℕ) → IsCommon cell n → (line_at cell n).tsc ≡ first.bcc
