@@ -45,7 +45,8 @@ static void plan(tdma_cell *cell)
     must("seize the second line", tdma_seize(cell, SECOND, 0, 4712).refusal);
     printf("Timeslot 0: line 0, combination 4, on C0, which is ARFCN 10.\n"
            "Timeslot 1: lines 1 and 2, full rate, hop over ARFCNs 20, 30 and 40; HSN 1, "
-           "MAIO 0 and 1.\n");
+           "MAIO 0 and 1.\n"
+           "Transceivers 0 to 3 each stay on one ARFCN: 10, 20, 30 and 40.\n");
 }
 
 /* A line without hopping on ARFCN 30 would meet the hopping ones: it is refused, the cell stays. */
@@ -61,7 +62,10 @@ static void clash(tdma_cell *cell)
         must("open the third line", answer.refusal);
 }
 
-/* What a line sends or receives in a frame. */
+/*
+ * What a line sends or receives in a frame, and by which transceiver: the one that stays on the
+ * answer's position of the cell allocation.
+ */
 static void print_line(const tdma_cell *cell, uint32_t line, uint32_t frame, uint32_t direction)
 {
     static const char *const channels[] = {"idle", "TCH",  "SACCH", "SDCCH", "FCCH",
@@ -69,8 +73,8 @@ static void print_line(const tdma_cell *cell, uint32_t line, uint32_t frame, uin
     tdma_line_answer answer = tdma_line(cell, line, frame, direction);
 
     must("line", answer.refusal);
-    printf("%9" PRIu32 "  %4" PRIu32 "  %5" PRIu32 "  %5" PRIu32 "  %s", frame, line, answer.arfcn,
-           answer.owner, channels[answer.channel]);
+    printf("%9" PRIu32 "  %4" PRIu32 "  %5" PRIu32 "  %11" PRIu32 "  %5" PRIu32 "  %s", frame, line,
+           answer.arfcn, answer.position, answer.owner, channels[answer.channel]);
     if (answer.blocks >= 1)
         printf(", place %" PRIu32 " of block %" PRIu32, answer.place, answer.block);
     if (answer.blocks == 2)
@@ -85,7 +89,7 @@ static void timetable(const tdma_cell *cell)
     uint32_t line;
     size_t i;
 
-    printf("\nDownlink:\n    frame  line  ARFCN  owner  channel\n");
+    printf("\nDownlink:\n    frame  line  ARFCN  transceiver  owner  channel\n");
     for (i = 0; i < sizeof frames / sizeof frames[0]; i++)
         for (line = COMMON; line <= SECOND; line++)
             print_line(cell, line, frames[i], TDMA_DOWNLINK);

@@ -120,11 +120,13 @@ tdma_join_answer tdma_join(uint32_t t1, uint32_t t2, uint32_t t3);
 typedef struct {
     uint32_t refusal;
     uint32_t position; /* 0 to length - 1; its bit in the mask is one */
+    uint32_t mai;      /* the mobile allocation index, 0 to N - 1: so many ones stand below that bit */
 } tdma_position_answer;
 
 /*
- * The position in a cell allocation of `length` entries that a line uses in a frame, for a caller
- * whose cell allocation is known to be right. Its cost does not depend on the length.
+ * The position in a cell allocation of `length` entries that a line uses in a frame, and its mobile
+ * allocation index (MAI), for a caller whose cell allocation is known to be right. Its cost does not
+ * depend on the length.
  *   length: of the cell allocation, 1 to 64.
  *   mask:   the mobile allocation, not zero, no one at or above the length.
  *   hsn:    0 (cyclic) to 63.
@@ -138,12 +140,15 @@ tdma_position_answer tdma_position(uint32_t length, uint64_t mask, uint32_t hsn,
 
 typedef struct {
     uint32_t refusal;
-    uint32_t arfcn; /* 0 to 1023, an entry of the cell allocation */
+    uint32_t arfcn;    /* 0 to 1023, an entry of the cell allocation */
+    uint32_t mai;      /* as in tdma_position_answer */
+    uint32_t position; /* of that entry, from 0; its bit in the mask is one. Where each transceiver
+                          stays on one position, it is the transceiver's number */
 } tdma_hop_answer;
 
 /*
- * The channel number (ARFCN) that a line uses in a frame. The whole cell allocation is checked in
- * each call, so the cost grows with its length.
+ * The channel number (ARFCN) that a line uses in a frame, its MAI and its position. The whole cell
+ * allocation is checked in each call, so the cost grows with its length.
  *   ca, ca_length: the cell allocation, 1 to 64 ARFCNs of 0 to 1023, strictly ascending. The length
  *                  is in entries; with 0 the call is refused.
  *   mask, hsn, maio, frame: as for tdma_position.
@@ -277,13 +282,15 @@ typedef struct {
     uint32_t arfcn;   /* 0 to 1023, an entry of the cell allocation, also where the line is idle */
     uint32_t owner;   /* of the subchannel; 0 where it is free or nobody's: idle, FCCH, SCH, BCCH,
                          CCCH and RACH */
-    uint32_t channel; /* enum tdma_channel; from here on as in tdma_map_answer */
+    uint32_t channel; /* enum tdma_channel; this and the six below as in tdma_map_answer */
     uint32_t subchannel;
     uint32_t blocks;
     uint32_t block;
     uint32_t place;
     uint32_t second_block;
     uint32_t second_place;
+    uint32_t mai;     /* this and position as in tdma_hop_answer, also where the line is idle */
+    uint32_t position;
 } tdma_line_answer;
 
 /*

@@ -25,12 +25,23 @@ typedef char cell_alignment[offsetof(struct cell_after_a_byte, cell) ==
                             offsetof(struct word_after_a_byte, word) ? 1 : -1];
 typedef char split_answer_size[sizeof(tdma_split_answer) == 24 ? 1 : -1];
 typedef char join_answer_size[sizeof(tdma_join_answer) == 8 ? 1 : -1];
-typedef char position_answer_size[sizeof(tdma_position_answer) == 8 ? 1 : -1];
-typedef char hop_answer_size[sizeof(tdma_hop_answer) == 8 ? 1 : -1];
+typedef char position_answer_size[sizeof(tdma_position_answer) == 12 ? 1 : -1];
+typedef char position_answer_places[offsetof(tdma_position_answer, position) == 4 &&
+                                    offsetof(tdma_position_answer, mai) == 8 ? 1 : -1];
+typedef char hop_answer_size[sizeof(tdma_hop_answer) == 16 ? 1 : -1];
+typedef char hop_answer_places[offsetof(tdma_hop_answer, arfcn) == 4 &&
+                               offsetof(tdma_hop_answer, mai) == 8 &&
+                               offsetof(tdma_hop_answer, position) == 12 ? 1 : -1];
 typedef char map_answer_size[sizeof(tdma_map_answer) == 8 ? 1 : -1];
 typedef char changed_size[sizeof(tdma_changed) == 8 ? 1 : -1];
-typedef char line_answer_size[sizeof(tdma_line_answer) == 40 ? 1 : -1];
-typedef char who_answer_size[sizeof(tdma_who_answer) == 12 + 40 ? 1 : -1];
+typedef char line_answer_size[sizeof(tdma_line_answer) == 48 ? 1 : -1];
+typedef char line_answer_places[offsetof(tdma_line_answer, arfcn) == 4 &&
+                                offsetof(tdma_line_answer, owner) == 8 &&
+                                offsetof(tdma_line_answer, second_place) == 36 &&
+                                offsetof(tdma_line_answer, mai) == 40 &&
+                                offsetof(tdma_line_answer, position) == 44 ? 1 : -1];
+typedef char who_answer_size[sizeof(tdma_who_answer) == 12 + 48 ? 1 : -1];
+typedef char who_answer_places[offsetof(tdma_who_answer, answer) == 12 ? 1 : -1];
 typedef char page_answer_size[sizeof(tdma_page_answer) == 16 ? 1 : -1];
 typedef char burst_answer_size[sizeof(tdma_burst_answer) == 8 ? 1 : -1];
 
@@ -42,6 +53,15 @@ static void expect(const char *what, int holds)
         printf("header.c: wrong answer: %s\n", what);
         wrong = 1;
     }
+}
+
+/* Whether every number of the answer behind its refusal is 0. */
+static int is_bare(const void *answer, size_t size, uint32_t refusal)
+{
+    uint32_t numbers[sizeof(tdma_who_answer) / sizeof(uint32_t)] = {0};
+
+    numbers[0] = refusal;
+    return memcmp(answer, numbers, size) == 0;
 }
 
 static void clock_calls(void)
@@ -60,24 +80,43 @@ static void clock_calls(void)
     expect("join, refused", odd.refusal == TDMA_MALFORMED && odd.frame == 0);
 }
 
-static void hopping_calls(void)
+/* With a hole in the mask ARFCN, MAI and position are three numbers. */
+static void hop_calls(void)
 {
     static const uint16_t ca[4] = {10, 20, 30, 40};
     tdma_hop_answer hop = tdma_hop(ca, 4, 15, 1, 0, 3);
+    tdma_hop_answer hole = tdma_hop(ca, 4, 10, 0, 1, 0);
+    tdma_hop_answer last = tdma_hop(ca, 4, 8, 63, 0, TDMA_HYPERFRAME - 1);
     tdma_hop_answer none = tdma_hop(NULL, 0, 15, 64, 4, TDMA_HYPERFRAME);
+    tdma_hop_answer past = tdma_hop(ca, 4, 10, 0, 1, TDMA_HYPERFRAME);
+
+    expect("hop", hop.refusal == TDMA_ACCEPTED && hop.arfcn == 30 && hop.mai == 2 &&
+                      hop.position == 2);
+    expect("hop over a hole", hole.refusal == TDMA_ACCEPTED && hole.arfcn == 40 && hole.mai == 1 &&
+                                  hole.position == 3);
+    expect("hop, one ARFCN", last.refusal == TDMA_ACCEPTED && last.arfcn == 40 && last.mai == 0 &&
+                                 last.position == 3);
+    expect("hop, refused", is_bare(&none, sizeof none, TDMA_CELL_ALLOCATION));
+    expect("hop, frame", is_bare(&past, sizeof past, TDMA_OUT_OF_RANGE));
+}
+
+static void position_calls(void)
+{
     tdma_position_answer position = tdma_position(4, 15, 1, 0, 3);
+    tdma_position_answer hole = tdma_position(64, UINT64_C(1) << 63 | 10, 0, 1, 1);
     tdma_position_answer above = tdma_position(4, UINT64_C(1) << 63, 1, 1, 3);
     tdma_position_answer maio = tdma_position(64, UINT64_MAX, 63, 64, 0);
     tdma_position_answer empty = tdma_position(0, 0, 64, 0, 0);
     tdma_position_answer too_long = tdma_position(65, 1, 0, 0, 0);
 
-    expect("hop", hop.refusal == TDMA_ACCEPTED && hop.arfcn == 30);
-    expect("hop, refused", none.refusal == TDMA_CELL_ALLOCATION && none.arfcn == 0);
-    expect("position", position.refusal == TDMA_ACCEPTED && position.position == 2);
-    expect("position, mask refused", above.refusal == TDMA_MOBILE_ALLOCATION);
-    expect("position, length refused",
-           empty.refusal == TDMA_CELL_ALLOCATION && too_long.refusal == TDMA_CELL_ALLOCATION);
-    expect("position, MAIO refused", maio.refusal == TDMA_MAIO && maio.position == 0);
+    expect("position", position.refusal == TDMA_ACCEPTED && position.position == 2 &&
+                           position.mai == 2);
+    expect("position over a hole", hole.refusal == TDMA_ACCEPTED && hole.position == 63 &&
+                                       hole.mai == 2);
+    expect("position, mask refused", is_bare(&above, sizeof above, TDMA_MOBILE_ALLOCATION));
+    expect("position, length refused", is_bare(&empty, sizeof empty, TDMA_CELL_ALLOCATION) &&
+                                           is_bare(&too_long, sizeof too_long, TDMA_CELL_ALLOCATION));
+    expect("position, MAIO refused", is_bare(&maio, sizeof maio, TDMA_MAIO));
 }
 
 static void map_calls(void)
@@ -98,7 +137,10 @@ static void map_calls(void)
     expect("map, refused", third.refusal == TDMA_OUT_OF_RANGE && third.channel == 0);
 }
 
-/* CA is 10, 20, 30, 40, C0 is 10, BCC is 0; a 4 is open on line 0, a 2 in timeslot 1 on line 5. */
+/*
+ * CA is 10, 20, 30, 40, C0 is 10, BCC is 0; a 4 is open on line 0, and a 2 in timeslot 1 on line 5,
+ * which hops over 20, 30 and 40.
+ */
 static tdma_cell two_lines(void)
 {
     static const uint16_t ca[4] = {10, 20, 30, 40};
@@ -106,7 +148,7 @@ static tdma_cell two_lines(void)
 
     expect("start", tdma_start(&cell, ca, 4, 10, 0, 1, 5).refusal == TDMA_ACCEPTED);
     expect("open a 4", tdma_open(&cell, 0, 0, 1, 0, 0, 4, 0).refusal == TDMA_ACCEPTED);
-    expect("open a 2", tdma_open(&cell, 5, 1, 7, 1, 2, 2, 3).refusal == TDMA_ACCEPTED);
+    expect("open a 2", tdma_open(&cell, 5, 1, 14, 1, 2, 2, 3).refusal == TDMA_ACCEPTED);
     return cell;
 }
 
@@ -185,8 +227,8 @@ static void refused_open_calls(void)
     tdma_changed clash = tdma_open(&cell, 6, 1, 4, 0, 0, 7, 0);
     tdma_changed common = tdma_open(&cell, 6, 0, 1, 0, 0, 4, 0);
     tdma_changed mask = tdma_open(&cell, 5, 1, UINT64_MAX, 0, 64, 4, 0);
-    tdma_changed maio = tdma_open(&cell, 5, 1, 7, 1, 3, 2, 3);
-    tdma_changed again = tdma_open(&cell, 5, 1, 7, 1, 1, 2, 3);
+    tdma_changed maio = tdma_open(&cell, 5, 1, 14, 1, 3, 2, 3);
+    tdma_changed again = tdma_open(&cell, 5, 1, 14, 1, 1, 2, 3);
 
     expect("open, clash", clash.refusal == TDMA_CLASH && clash.line == 5);
     expect("open, common channel", common.refusal == TDMA_COMMON_CHANNEL && common.line == 0);
@@ -233,35 +275,52 @@ static void line_calls(void)
 
     expect("line, CCCH", ccch.refusal == TDMA_ACCEPTED && ccch.arfcn == 10 && ccch.owner == 0 &&
                              ccch.channel == TDMA_CCCH && ccch.blocks == 1 && ccch.block == 4 &&
-                             ccch.place == 0);
-    expect("line, TCH", tch.refusal == TDMA_ACCEPTED && tch.arfcn == 30 && tch.owner == 77 &&
+                             ccch.place == 0 && ccch.mai == 0 && ccch.position == 0);
+    expect("line, TCH", tch.refusal == TDMA_ACCEPTED && tch.arfcn == 40 && tch.owner == 77 &&
                             tch.channel == TDMA_TCH && tch.subchannel == 1 && tch.blocks == 2 &&
                             tch.block == 0 && tch.place == 1 && tch.second_block == 5 &&
                             tch.second_place == 3);
+    expect("line, TCH, MAI and position", tch.mai == 2 && tch.position == 3);
     expect("line, free", spare.channel == TDMA_TCH && spare.subchannel == 0 && spare.owner == 0);
-    expect("line, closed", closed.refusal == TDMA_LINE_CLOSED && closed.arfcn == 0);
-    expect("line, frame", past.refusal == TDMA_OUT_OF_RANGE && past.channel == 0);
+    expect("line, closed", is_bare(&closed, sizeof closed, TDMA_LINE_CLOSED));
+    expect("line, frame", is_bare(&past, sizeof past, TDMA_OUT_OF_RANGE));
+}
+
+/* A line that hops over 20 and 40; in frame 25 it is idle, on the second of them. */
+static void idle_line_calls(void)
+{
+    tdma_cell cell = two_lines();
+    tdma_changed opened = tdma_open(&cell, 6, 2, 10, 0, 0, 1, 0);
+    tdma_line_answer idle = tdma_line(&cell, 6, 25, TDMA_UPLINK);
+    tdma_who_answer who = tdma_who(&cell, 2, 40, 25, TDMA_UPLINK);
+
+    expect("open a 1", opened.refusal == TDMA_ACCEPTED);
+    expect("line, idle", idle.refusal == TDMA_ACCEPTED && idle.channel == TDMA_IDLE &&
+                             idle.owner == 0 && idle.blocks == 0);
+    expect("line, idle, hop", idle.arfcn == 40 && idle.mai == 1 && idle.position == 3);
+    expect("who, idle", who.refusal == TDMA_ACCEPTED && who.found == 1 && who.line == 6 &&
+                            memcmp(&who.answer, &idle, sizeof idle) == 0);
 }
 
 static void who_calls(void)
 {
     const tdma_cell cell = one_held();
     tdma_line_answer shown = tdma_line(&cell, 5, 3, TDMA_UPLINK);
-    tdma_who_answer tch = tdma_who(&cell, 1, 30, 3, TDMA_UPLINK);
+    tdma_who_answer tch = tdma_who(&cell, 1, 40, 3, TDMA_UPLINK);
     tdma_who_answer ccch = tdma_who(&cell, 0, 10, 26, TDMA_DOWNLINK);
-    tdma_who_answer nobody = tdma_who(&cell, 0, 30, 3, TDMA_UPLINK);
-    tdma_who_answer past = tdma_who(&cell, 8, 30, 3, TDMA_UPLINK);
+    tdma_who_answer nobody = tdma_who(&cell, 1, 30, 3, TDMA_UPLINK);
+    tdma_who_answer past = tdma_who(&cell, 8, 40, 3, TDMA_UPLINK);
     tdma_who_answer arfcn = tdma_who(&cell, 1, 1024, 3, TDMA_UPLINK);
 
     expect("who", tch.refusal == TDMA_ACCEPTED && tch.found == 1 && tch.line == 5 &&
                       tch.answer.owner == 77 && memcmp(&tch.answer, &shown, sizeof shown) == 0);
+    expect("who, MAI and position", tch.answer.arfcn == 40 && tch.answer.mai == 2 &&
+                                        tch.answer.position == 3);
     expect("who, CCCH", ccch.found == 1 && ccch.line == 0 && ccch.answer.channel == TDMA_CCCH &&
                             ccch.answer.arfcn == 10 && ccch.answer.block == 4);
-    expect("who, nobody", nobody.refusal == TDMA_ACCEPTED && nobody.found == 0 &&
-                              nobody.line == 0 && nobody.answer.arfcn == 0 &&
-                              nobody.answer.channel == TDMA_IDLE);
-    expect("who, timeslot", past.refusal == TDMA_OUT_OF_RANGE && past.found == 0);
-    expect("who, ARFCN", arfcn.refusal == TDMA_OUT_OF_RANGE && arfcn.found == 0);
+    expect("who, nobody", is_bare(&nobody, sizeof nobody, TDMA_ACCEPTED));
+    expect("who, timeslot", is_bare(&past, sizeof past, TDMA_OUT_OF_RANGE));
+    expect("who, ARFCN", is_bare(&arfcn, sizeof arfcn, TDMA_OUT_OF_RANGE));
 }
 
 /* The drill sheet's row on paging, and its refusals. */
@@ -399,7 +458,8 @@ static void bursts_without_payload(void)
 int main(void)
 {
     clock_calls();
-    hopping_calls();
+    hop_calls();
+    position_calls();
     map_calls();
     start_calls();
     start_fills_the_cell();
@@ -407,6 +467,7 @@ int main(void)
     open_and_close_calls();
     seize_and_release_calls();
     line_calls();
+    idle_line_calls();
     who_calls();
     page_calls();
     normal_burst_calls();

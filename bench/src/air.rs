@@ -72,7 +72,7 @@ fn found(a: WhoAnswer) -> u32 {
     a.refusal + a.found + a.line + a.answer.arfcn
 }
 
-/// All fields added up.
+/// All fields added up, but for MAI and position, which libosmocore doesn't answer.
 fn line_added_up(a: LineAnswer) -> u32 {
     let blocks = a.blocks + a.block + a.place + a.second_block + a.second_place;
     a.refusal + a.arfcn + a.owner + a.channel + a.subchannel + blocks
@@ -179,15 +179,15 @@ type Place = (u32, u32, u32);
 fn hit(random: &mut Random, cell: &cell::Cell) -> Place {
     let (frame, direction) = (random.below(HYPERFRAME), random.below(2));
     let on_air = cell.line(63, frame, direction).unwrap();
-    (on_air.arfcn, frame, direction)
+    (on_air.hop.arfcn, frame, direction)
 }
 
 /// Where no line is: on an ARFCN of the cell, or on another if all are used in that frame.
 fn miss(random: &mut Random, cell: &cell::Cell) -> Place {
     let (frame, direction) = (random.below(HYPERFRAME), random.below(2));
     let in_seven = cell.lines.iter().filter(|(_, line)| line.tn == 7);
-    let arfcn = |(&number, _): (&u32, _)| cell.line(number, frame, direction).unwrap().arfcn;
-    let used: Vec<u32> = in_seven.map(arfcn).collect();
+    let line = |(&number, _): (&u32, _)| cell.line(number, frame, direction).unwrap();
+    let used: Vec<u32> = in_seven.map(|each| line(each).hop.arfcn).collect();
     let ca = cell.plan.ca.iter().map(|&arfcn| u32::from(arfcn));
     let mut free: Vec<u32> = ca.filter(|arfcn| !used.contains(arfcn)).collect();
     if free.is_empty() {

@@ -117,7 +117,8 @@ pub fn table(random: &mut Random) -> Table {
                 library::hop(&l.ca, l.mask, l.hsn, l.maio, frame).arfcn
             }),
             contender("second (lists)", asked, |&(l, frame)| {
-                hopping::hop(&l.ca, l.mask, l.hsn, l.maio, frame).unwrap()
+                let hop = hopping::hop(&l.ca, l.mask, l.hsn, l.maio, frame);
+                hop.unwrap().arfcn
             }),
             contender("libosmocore, unchecked", asked, |&(l, frame)| {
                 osmocore::hop(&l.ma, l.hsn, l.maio, frame)

@@ -2,6 +2,11 @@
 
 #include <string.h>
 
+static void together(const char *call, uint32_t belongs)
+{
+    expect(call, "ARFCN, MAI and position don't belong together", belongs == 1);
+}
+
 /* Compares two answers of a call, and counts the refusal. */
 static uint32_t compared(const char *call, uint32_t refusal, const void *answer,
                          const void *second, size_t size)
@@ -32,6 +37,7 @@ uint32_t both_position(uint32_t length, uint64_t mask, uint32_t hsn, uint32_t ma
     const tdma_position_answer answer = tdma_position(length, mask, hsn, maio, frame);
     const tdma_position_answer second = second_position(length, mask, hsn, maio, frame);
 
+    together("position", second_position_belongs(length, mask, answer));
     return compared("position", answer.refusal, &answer, &second, sizeof answer);
 }
 
@@ -41,6 +47,7 @@ uint32_t both_hop(const uint16_t *ca, size_t ca_length, uint64_t mask, uint32_t 
     const tdma_hop_answer answer = tdma_hop(ca, ca_length, mask, hsn, maio, frame);
     const tdma_hop_answer second = second_hop(ca, ca_length, mask, hsn, maio, frame);
 
+    together("hop", second_hop_belongs(ca, ca_length, mask, answer));
     return compared("hop", answer.refusal, &answer, &second, sizeof answer);
 }
 
@@ -142,6 +149,7 @@ uint32_t both_line(const both_cells *cells, uint32_t line, uint32_t frame, uint3
     const tdma_line_answer second = second_line(cells->second, line, frame, direction);
 
     looked_only("line", cells, &before);
+    together("line", second_line_belongs(cells->second, line, &answer));
     return compared("line", answer.refusal, &answer, &second, sizeof answer);
 }
 
@@ -153,6 +161,7 @@ uint32_t both_who(const both_cells *cells, uint32_t tn, uint32_t arfcn, uint32_t
     const tdma_who_answer second = second_who(cells->second, tn, arfcn, frame, direction);
 
     looked_only("who", cells, &before);
+    together("who", second_who_belongs(cells->second, &answer));
     return compared("who", answer.refusal, &answer, &second, sizeof answer);
 }
 

@@ -1,7 +1,7 @@
 /*
- * The calls of tdma.h on the library and on the second implementation. The answers must be equal, a
- * refused call must leave what it was lent as it was, and so must line, who and page. Each function
- * gives the refusal, 0 for accepted, and counts it.
+ * The calls of tdma.h on the library and on the second implementation. The answers must be equal, and
+ * ARFCN, MAI and position belong together; a refused call must leave what it was lent as it was, and
+ * so must line, who and page. Each function gives the refusal, 0 for accepted, and counts it.
  */
 #ifndef BOTH_H
 #define BOTH_H

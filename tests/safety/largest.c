@@ -35,11 +35,11 @@ static void hopping_and_map_calls(void)
 
     for (bits = 0; bits < 32; bits++)
         answered("position", bits,
-                 both_position(at(bits, 0, 4), mask_at(bits, 1, 15), at(bits, 2, 1), at(bits, 3, 0),
+                 both_position(at(bits, 0, 4), mask_at(bits, 1, 10), at(bits, 2, 1), at(bits, 3, 1),
                                at(bits, 4, 3)));
     for (bits = 0; bits < 16; bits++)
         answered("hop", bits,
-                 both_hop(ca, 4, mask_at(bits, 0, 15), at(bits, 1, 1), at(bits, 2, 0),
+                 both_hop(ca, 4, mask_at(bits, 0, 10), at(bits, 1, 1), at(bits, 2, 1),
                           at(bits, 3, 3)));
     for (bits = 0; bits < 16; bits++)
         answered("map", bits,

@@ -9,11 +9,15 @@ typedef struct {
     guarded lent;
 } slices;
 
-/* Hops and starts with CA of one length; both are accepted where it is 1 to 64 and `last` fits. */
+/*
+ * Hops to the last entry of a CA of one length, and starts with it; both are accepted where it is 1 to
+ * 64 and `last` fits.
+ */
 static void cell_allocation(both_cells *cells, slices at, size_t length, uint16_t last,
                             enum side side)
 {
-    const int fits = length >= 1 && length <= 64 && last <= 1023;
+    const int of_size = length >= 1 && length <= 64, fits = of_size && last <= 1023;
+    const uint64_t mask = of_size ? UINT64_C(1) << (length - 1) : 1;
     uint16_t entries[LONGEST];
     const uint16_t *ca;
     uint16_t i;
@@ -24,7 +28,7 @@ static void cell_allocation(both_cells *cells, slices at, size_t length, uint16_
         entries[length - 1] = last;
     ca = (const void *)copied(at.read, entries, length * sizeof *ca, side);
     read_only(at.read);
-    expect("hop", "accepted or refused", (both_hop(ca, length, 1, 0, 0, 0) == 0) == fits);
+    expect("hop", "accepted or refused", (both_hop(ca, length, mask, 0, 0, 0) == 0) == fits);
     expect("start", "accepted or refused",
            (both_start(cells, ca, length, entries[0], 7, 7, 9) == 0) == fits);
     writable(at.read);

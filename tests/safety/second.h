@@ -32,6 +32,14 @@ tdma_who_answer second_who(const second_cell *cell, uint32_t tn, uint32_t arfcn,
 tdma_page_answer second_page(const second_cell *cell, const uint8_t *digits, size_t digits_length,
                              uint32_t frame);
 
+/* 1 where an answer's ARFCN, MAI and position belong together, by the cell allocation and mask. */
+uint32_t second_position_belongs(uint32_t length, uint64_t mask, tdma_position_answer answer);
+uint32_t second_hop_belongs(const uint16_t *ca, size_t ca_length, uint64_t mask,
+                            tdma_hop_answer answer);
+uint32_t second_line_belongs(const second_cell *cell, uint32_t line,
+                             const tdma_line_answer *answer);
+uint32_t second_who_belongs(const second_cell *cell, const tdma_who_answer *answer);
+
 /* The calls on bursts. Each reads one buffer and is lent another; the last two read nothing. */
 enum burst_call {
     BUILD_NORMAL,

@@ -74,6 +74,18 @@ static void fill(tdma_cell *cell, uint64_t *state, const tdma_cell *three_lines,
     }
 }
 
+/* Refused, it has no other number; else MAI counts ones of some mask below the position. */
+static void has_a_place(const char *call, const tdma_line_answer *answer)
+{
+    tdma_line_answer refused = {0};
+
+    refused.refusal = answer->refusal;
+    expect(call, "refused, but with other numbers",
+           answer->refusal == TDMA_ACCEPTED || equal(answer, &refused, sizeof refused));
+    expect(call, "a position of no mask",
+           answer->mai <= answer->position && answer->position <= 63);
+}
+
 /* Line, who and page. The cell cannot be written while they are made. */
 static void ask(const tdma_cell *cell, uint64_t *state)
 {
@@ -84,6 +96,8 @@ static void ask(const tdma_cell *cell, uint64_t *state)
     const tdma_who_answer who =
         tdma_who(cell, number(state, 7), number(state, 1023), frame, direction);
 
+    has_a_place("line", &line);
+    has_a_place("who", &who.answer);
     noted("line", line.refusal);
     noted("who", who.refusal);
     noted("page", tdma_page(cell, length > 0 ? digits : NULL, length, frame).refusal);

@@ -1,5 +1,6 @@
 //! The second implementation for C: each call of include/tdma.h under the name `second_..`, on a cell
-//! of its own, and the drawing of starts and calls. tests/safety/second.h declares them.
+//! of its own, whether an answer's numbers belong together, and the drawing of starts and calls.
+//! tests/safety/second.h declares them.
 
 use crate::bursts;
 use crate::calls::Call;
@@ -7,7 +8,7 @@ use crate::cell::{Cell, Plan, Refused, Values};
 use crate::library::{BurstAnswer, Changed, HopAnswer, JoinAnswer, LineAnswer, MapAnswer};
 use crate::library::{PageAnswer, PositionAnswer, SplitAnswer, WhoAnswer};
 use crate::random::Random;
-use crate::{clock, draw, frame_map, hopping};
+use crate::{clock, draw, frame_map, hopping, placed};
 
 /// What C passes as pointer and length.
 ///
@@ -159,6 +160,31 @@ unsafe extern "C" fn second_page(
     frame: u32,
 ) -> PageAnswer {
     cell.page(slice(digits, digits_length), frame).into()
+}
+
+#[no_mangle]
+extern "C" fn second_position_belongs(length: u32, mask: u64, answer: PositionAnswer) -> u32 {
+    placed::position(length, mask, answer).into()
+}
+
+#[no_mangle]
+unsafe extern "C" fn second_hop_belongs(
+    ca: *const u16,
+    ca_length: usize,
+    mask: u64,
+    answer: HopAnswer,
+) -> u32 {
+    placed::hop(slice(ca, ca_length), mask, answer).into()
+}
+
+#[no_mangle]
+extern "C" fn second_line_belongs(cell: &Cell, line: u32, answer: &LineAnswer) -> u32 {
+    placed::line(&cell.plan.ca, cell.mask(line), *answer).into()
+}
+
+#[no_mangle]
+extern "C" fn second_who_belongs(cell: &Cell, answer: &WhoAnswer) -> u32 {
+    placed::who(cell, *answer).into()
 }
 
 /// The eight calls on bursts, in the order of `enum burst_call`.

@@ -4,6 +4,7 @@
 use crate::cell::{Causes, Cell, Plan, Refused, Values};
 use crate::library::{self, Changed, LineAnswer, PageAnswer, WhoAnswer};
 use crate::paging::Imsi;
+use crate::placed;
 
 /// A call on a cell, with what it is given beside the cell, in the header's order.
 #[derive(Clone, Copy, Debug)]
@@ -146,6 +147,12 @@ impl Both {
             "line {line}, FN {frame}, direction {direction} of {:?}",
             self.second
         );
+        let (ca, mask) = (&self.second.plan.ca, self.second.mask(line));
+        assert!(
+            placed::line(ca, mask, answer),
+            "{answer:?}, line {line} of {:?}",
+            self.second
+        );
         answer
     }
 
@@ -156,6 +163,11 @@ impl Both {
         assert_eq!(
             answer, second,
             "TN {tn}, ARFCN {arfcn}, FN {frame}, direction {direction} of {:?}",
+            self.second
+        );
+        assert!(
+            placed::who(&self.second, answer),
+            "{answer:?} of {:?}",
             self.second
         );
         answer

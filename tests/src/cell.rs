@@ -4,7 +4,7 @@
 
 use crate::clock::HYPERFRAME;
 use crate::frame_map::{map, Burst, Channel, COMBINATIONS};
-use crate::hopping::{hop, is_cell_allocation, positions};
+use crate::hopping::{hop, is_cell_allocation, positions, Hop};
 use crate::{refuse, Answer, CELL_ALLOCATION, CELL_PARAMETER, CLASH, COMMON_CHANNEL, LINE_CLOSED};
 use crate::{LINE_HELD, LINE_OPEN, MAIO, MOBILE_ALLOCATION, NOT_HOLDER, NO_SUBCHANNEL};
 use crate::{OUT_OF_RANGE, SUBCHANNEL_HELD};
@@ -57,6 +57,8 @@ impl From<Six> for Values {
 #[derive(Clone, Debug)]
 pub struct OpenLine {
     pub tn: u32,
+    /// The mask that open was given, to hold answers to it; nothing is worked out by it.
+    pub mask: u64,
     /// The mobile allocation, ascending.
     pub ma: Vec<u16>,
     pub hsn: u32,
@@ -83,7 +85,7 @@ impl From<u32> for Refused {
 /// What a line has in a frame.
 #[derive(Clone, Copy, Debug)]
 pub struct OnAir {
-    pub arfcn: u32,
+    pub hop: Hop,
     pub burst: &'static Burst,
     pub owner: u32,
 }
@@ -126,10 +128,18 @@ impl OpenLine {
         self.tn == other.tn && share && !(same_sequence && self.maio != other.maio)
     }
 
-    /// The mobile allocation by itself is a cell allocation of which the line uses every entry.
-    fn arfcn(&self, frame: u32) -> Answer<u32> {
+    /// The mobile allocation by itself is a cell allocation of which the line uses every entry. The
+    /// position is where the cell's own has the ARFCN.
+    fn hop(&self, ca: &[u16], frame: u32) -> Answer<Hop> {
         let all = (0..self.ma.len()).map(|position| 1 << position).sum();
-        hop(&self.ma, all, self.hsn, self.maio, frame)
+        let Hop { arfcn, mai, .. } = hop(&self.ma, all, self.hsn, self.maio, frame)?;
+        let position = ca.iter().position(|&entry| u32::from(entry) == arfcn);
+        let position = position.unwrap() as u32;
+        Ok(Hop {
+            arfcn,
+            mai,
+            position,
+        })
     }
 
     pub fn owner(&self, s: u32) -> u32 {
@@ -164,6 +174,7 @@ impl Cell {
         let ma = listed.filter_map(|position| self.plan.ca.get(position as usize).copied());
         OpenLine {
             tn: v.tn,
+            mask: v.mask,
             ma: ma.collect(),
             hsn: v.hsn,
             maio: v.maio,
@@ -171,6 +182,11 @@ impl Cell {
             tsc: v.tsc,
             owners: HashMap::new(),
         }
+    }
+
+    /// The mask of a line, 0 for a closed one.
+    pub fn mask(&self, number: u32) -> u64 {
+        self.lines.get(&number).map_or(0, |line| line.mask)
     }
 
     fn some_line(&self, test: impl Fn(&OpenLine) -> bool) -> bool {
@@ -308,7 +324,7 @@ impl Cell {
         let burst = map(line.combination, line.tn, frame, direction)?;
         let own = burst.channel != Channel::Idle && !is_common(burst.channel);
         Ok(OnAir {
-            arfcn: line.arfcn(frame)?,
+            hop: line.hop(&self.plan.ca, frame)?,
             burst,
             owner: if own { line.owner(burst.subchannel) } else { 0 },
         })
@@ -325,7 +341,7 @@ impl Cell {
         let mut found = None;
         for (&line, _) in self.lines.iter().filter(|(_, line)| line.tn == tn) {
             let on_air = self.line(line, frame, direction)?;
-            if on_air.arfcn == arfcn {
+            if on_air.hop.arfcn == arfcn {
                 assert!(found.is_none(), "two lines on ARFCN {arfcn}, FN {frame}");
                 found = Some(Found { line, on_air });
             }

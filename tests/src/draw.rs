@@ -213,7 +213,7 @@ fn aimed_who(random: &mut Random, cell: &Cell) -> Option<Call> {
     let (&line, open) = pick(random, cell.lines.iter())?;
     let (frame, direction) = (random.frame(), random.below(2));
     let on_air = cell.line(line, frame, direction).unwrap();
-    Some(Call::Who(open.tn, on_air.arfcn, frame, direction))
+    Some(Call::Who(open.tn, on_air.hop.arfcn, frame, direction))
 }
 
 /// An IMSI of 3 to 15 digits.

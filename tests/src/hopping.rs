@@ -72,8 +72,15 @@ fn mobile_allocation_index(n: u32, hsn: u32, maio: u32, frame: u32, now: Counter
     (index(entry, now.t2 as u32, now.t3 as u32, n) + maio) % n
 }
 
-/// The position in a cell allocation of `length` entries.
-pub fn position(length: u32, mask: u64, hsn: u32, maio: u32, frame: u32) -> Answer<u32> {
+/// A place in the list of positions, which is MAI, and the position that stands there.
+#[derive(Clone, Copy, Debug, PartialEq, Eq)]
+pub struct Place {
+    pub mai: u32,
+    pub position: u32,
+}
+
+/// The place in a cell allocation of `length` entries.
+pub fn position(length: u32, mask: u64, hsn: u32, maio: u32, frame: u32) -> Answer<Place> {
     let list = positions(mask);
     let n = list.len() as u32;
     let above = list.iter().any(|&position| position >= length);
@@ -84,7 +91,8 @@ pub fn position(length: u32, mask: u64, hsn: u32, maio: u32, frame: u32) -> Answ
         (CELL_ALLOCATION, !(1..=64).contains(&length)),
     ])?;
     let mai = mobile_allocation_index(n, hsn, maio, frame, split(frame)?);
-    Ok(list[mai as usize])
+    let position = list[mai as usize];
+    Ok(Place { mai, position })
 }
 
 /// Whether these are 1 to 64 ARFCNs, strictly ascending.
@@ -93,9 +101,22 @@ pub fn is_cell_allocation(ca: &[u16]) -> bool {
     (1..=64).contains(&ca.len()) && ascending && ca.iter().all(|&arfcn| arfcn <= 1023)
 }
 
-/// The ARFCN that a line uses in a frame.
-pub fn hop(ca: &[u16], mask: u64, hsn: u32, maio: u32, frame: u32) -> Answer<u32> {
+/// What a line is tuned to in a frame: the ARFCN, MAI, and the CA position that has the ARFCN.
+#[derive(Clone, Copy, Debug, PartialEq, Eq)]
+pub struct Hop {
+    pub arfcn: u32,
+    pub mai: u32,
+    pub position: u32,
+}
+
+/// The hop of a line in a frame, with the cell allocation checked.
+pub fn hop(ca: &[u16], mask: u64, hsn: u32, maio: u32, frame: u32) -> Answer<Hop> {
     refuse(&[(CELL_ALLOCATION, !is_cell_allocation(ca))])?;
-    let position = position(ca.len() as u32, mask, hsn, maio, frame)?;
-    Ok(ca[position as usize] as u32)
+    let Place { mai, position } = position(ca.len() as u32, mask, hsn, maio, frame)?;
+    let arfcn = ca[position as usize].into();
+    Ok(Hop {
+        arfcn,
+        mai,
+        position,
+    })
 }

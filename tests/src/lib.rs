@@ -4,8 +4,9 @@
 //! other means than the library: counters that step from frame to frame, lists of positions, tables
 //! of frames that are painted block by block, a book of the open lines, a walk to the frame where a
 //! paging block begins. `bursts` has the layouts of clause 5.2 written out bit by bit. `library` is
-//! the library under test as C sees it. `random` draws the inputs, and `draw` whole calls on a cell,
-//! which `calls` makes on both. `c_api` is the second implementation for C.
+//! the library under test as C sees it. `placed` holds its answers to the mask and the cell
+//! allocation. `random` draws the inputs, and `draw` whole calls on a cell, which `calls` makes on
+//! both. `c_api` is the second implementation for C.
 //!
 //! For the program `schedule`, `command` reads a line of its text format, `schedule` answers whole
 //! inputs from the second implementation, with `timetable` for the tables, `draw_line` and `script`
@@ -24,6 +25,7 @@ pub mod frame_map;
 pub mod hopping;
 pub mod library;
 pub mod paging;
+pub mod placed;
 pub mod program;
 pub mod random;
 pub mod schedule;

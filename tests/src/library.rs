@@ -5,6 +5,7 @@ use crate::bursts::{self, Call};
 use crate::cell::{Found, OnAir, Values};
 use crate::clock::Counters;
 use crate::frame_map::Burst;
+use crate::hopping::{Hop, Place};
 use crate::paging::Paged;
 use crate::Answer;
 
@@ -19,11 +20,12 @@ macro_rules! answers {
 answers! {
     SplitAnswer: u32 { refusal, t1, t2, t3, t3_prime_given, t3_prime }
     JoinAnswer: u32 { refusal, frame }
-    PositionAnswer: u32 { refusal, position }
-    HopAnswer: u32 { refusal, arfcn }
+    PositionAnswer: u32 { refusal, position, mai }
+    HopAnswer: u32 { refusal, arfcn, mai, position }
     MapAnswer: u8 { refusal, channel, subchannel, blocks, block, place, second_block, second_place }
     LineAnswer: u32 {
-        refusal, arfcn, owner, channel, subchannel, blocks, block, place, second_block, second_place
+        refusal, arfcn, owner, channel, subchannel, blocks, block, place, second_block,
+        second_place, mai, position
     }
     PageAnswer: u32 { refusal, tn, block, frame }
     Changed: u32 { refusal, line }
@@ -282,17 +284,40 @@ impl From<Answer<u32>> for JoinAnswer {
     }
 }
 
-impl From<Answer<u32>> for PositionAnswer {
-    fn from(answer: Answer<u32>) -> Self {
-        let (refusal, position) = answer.map_or_else(|refusal| (refusal, 0), |at| (0, at));
-        PositionAnswer { refusal, position }
+impl From<Answer<Place>> for PositionAnswer {
+    fn from(answer: Answer<Place>) -> Self {
+        match answer {
+            Err(refusal) => PositionAnswer {
+                refusal,
+                ..Default::default()
+            },
+            Ok(Place { mai, position }) => PositionAnswer {
+                refusal: 0,
+                position,
+                mai,
+            },
+        }
     }
 }
 
-impl From<Answer<u32>> for HopAnswer {
-    fn from(answer: Answer<u32>) -> Self {
-        let (refusal, arfcn) = answer.map_or_else(|refusal| (refusal, 0), |arfcn| (0, arfcn));
-        HopAnswer { refusal, arfcn }
+impl From<Answer<Hop>> for HopAnswer {
+    fn from(answer: Answer<Hop>) -> Self {
+        match answer {
+            Err(refusal) => HopAnswer {
+                refusal,
+                ..Default::default()
+            },
+            Ok(Hop {
+                arfcn,
+                mai,
+                position,
+            }) => HopAnswer {
+                refusal: 0,
+                arfcn,
+                mai,
+                position,
+            },
+        }
     }
 }
 
@@ -328,11 +353,7 @@ impl From<Answer<&Burst>> for MapAnswer {
 
 impl From<Answer<OnAir>> for LineAnswer {
     fn from(answer: Answer<OnAir>) -> Self {
-        let OnAir {
-            arfcn,
-            burst,
-            owner,
-        } = match answer {
+        let OnAir { hop, burst, owner } = match answer {
             Err(refusal) => {
                 return LineAnswer {
                     refusal,
@@ -344,7 +365,7 @@ impl From<Answer<OnAir>> for LineAnswer {
         let map = MapAnswer::from(Ok(burst));
         LineAnswer {
             refusal: 0,
-            arfcn,
+            arfcn: hop.arfcn,
             owner,
             channel: map.channel.into(),
             subchannel: map.subchannel.into(),
@@ -353,6 +374,8 @@ impl From<Answer<OnAir>> for LineAnswer {
             place: map.place.into(),
             second_block: map.second_block.into(),
             second_place: map.second_place.into(),
+            mai: hop.mai,
+            position: hop.position,
         }
     }
 }

@@ -5,8 +5,9 @@ use crate::bursts;
 use crate::cell::{self, Cell, OnAir, Plan};
 use crate::command::{read, Command};
 use crate::frame_map::{map, Burst, Channel};
+use crate::hopping::{hop, Hop};
 use crate::timetable::{name, timetable};
-use crate::{clock, hopping, CLASH, FIXED_BIT};
+use crate::{clock, CLASH, FIXED_BIT};
 
 /// A refusal, and the value that comes with it.
 struct Refused {
@@ -68,12 +69,16 @@ fn mapped(burst: &Burst) -> String {
     }
 }
 
+fn tuned(hop: &Hop) -> String {
+    format!("{} {} {}", hop.arfcn, hop.mai, hop.position)
+}
+
 fn on_air(told: &OnAir) -> String {
-    let (arfcn, owner, burst) = (told.arfcn, told.owner, told.burst);
+    let (tuned, owner, burst) = (tuned(&told.hop), told.owner, told.burst);
     let s = burst.subchannel;
     match burst.channel {
-        Channel::Idle => format!("{arfcn} idle"),
-        channel => format!("{arfcn} {} {s} {owner}{}", name(channel), blocks(burst)),
+        Channel::Idle => format!("{tuned} idle"),
+        channel => format!("{tuned} {} {s} {owner}{}", name(channel), blocks(burst)),
     }
 }
 
@@ -124,7 +129,7 @@ impl Session {
             Command::Split(frame) => split(frame)?,
             Command::Join([t1, t2, t3]) => format!("ok {}", clock::join(t1, t2, t3)?),
             Command::Hop(mask, [hsn, maio, frame], ref ca) => {
-                format!("ok {}", hopping::hop(ca, mask, hsn, maio, frame)?)
+                format!("ok {}", tuned(&hop(ca, mask, hsn, maio, frame)?))
             }
             Command::Map([combination, tn, frame, direction]) => {
                 mapped(map(combination, tn, frame, direction)?)

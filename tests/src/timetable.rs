@@ -41,7 +41,7 @@ fn column(on_air: &OnAir) -> String {
         Channel::Idle => name(Channel::Idle).into(),
         _ => channel(on_air),
     };
-    format!("{:>5} {what:<23}", on_air.arfcn)
+    format!("{:>5} {what:<23}", on_air.hop.arfcn)
 }
 
 /// A row: what stands before the columns, and the columns.

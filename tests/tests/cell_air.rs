@@ -10,7 +10,7 @@ use tdma_tests::frame_map::{map, Channel};
 use tdma_tests::hopping::hop;
 use tdma_tests::library::{self, LineAnswer};
 use tdma_tests::random::Random;
-use tdma_tests::{draw, LINE_CLOSED};
+use tdma_tests::{draw, placed, LINE_CLOSED};
 
 /// How many cells are searched for channels that meet, and in how many frames each.
 const CELLS: usize = 40;
@@ -129,13 +129,14 @@ impl Run {
             let own = burst.channel != Channel::Idle && !is_common(burst.channel);
             let owner = if own { owners[&burst.subchannel] } else { 0 };
             let on_air = OnAir {
-                arfcn: hop(&self.plan.ca, v.mask, v.hsn, v.maio, frame).unwrap(),
+                hop: hop(&self.plan.ca, v.mask, v.hsn, v.maio, frame).unwrap(),
                 burst,
                 owner,
             };
             let told = library::line(&self.cell, number, frame, direction);
             let place = format_args!("line {number}, {v:?}, FN {frame}, direction {direction}");
             assert_eq!(told, LineAnswer::from(Ok(on_air)), "{place}");
+            assert!(placed::line(&self.plan.ca, v.mask, told), "{place}");
             if own {
                 met.insert(burst.subchannel, owner);
             }
@@ -232,4 +233,35 @@ fn no_two_channels_meet() {
     }
     println!("beside {}, shared {}", near.beside, near.shared);
     assert!(near.beside > 100_000 && near.shared > 100);
+}
+
+/// A transceiver that stays on one position gets a burst of one line in a frame and timeslot, so that
+/// no two open lines of a timeslot may have one position, idle ones neither. Gives how many lines
+/// stand beside others.
+fn routed(run: &Run, lines: &[(u32, u32)], frame: u32, direction: u32) -> usize {
+    let mut transceivers = [[false; 64]; 8];
+    let mut timeslots = BTreeSet::new();
+    for &(number, tn) in lines {
+        let told = library::line(&run.cell, number, frame, direction);
+        let taken = &mut transceivers[tn as usize][told.position as usize];
+        assert!(!*taken, "line {number}, TN {tn}, FN {frame}: {told:?}");
+        *taken = true;
+        timeslots.insert(tn);
+    }
+    lines.len() - timeslots.len()
+}
+
+#[test]
+fn no_transceiver_gets_two_bursts() {
+    let (mut random, mut beside) = (Random(21), 0);
+    for _ in 0..CELLS {
+        let length = 100 + random.below(700);
+        let mut run = Run::draw(&mut random, length, 8);
+        let lines = run.seize_all();
+        for _ in 0..FRAMES {
+            beside += routed(&run, &lines, random.frame(), random.below(2));
+        }
+    }
+    println!("beside {beside}");
+    assert!(beside > 100_000);
 }

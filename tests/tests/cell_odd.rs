@@ -202,6 +202,11 @@ fn start_fills_any_storage() {
     }
 }
 
+/// MAI counts ones below the position, whatever mask and cell allocation the storage has.
+fn in_some_mask(answer: LineAnswer) -> bool {
+    answer.mai <= answer.position && answer.position <= 63
+}
+
 fn line_returns(cell: &library::Cell, line: u32, frame: u32, direction: u32) {
     let answer = library::line(cell, line, frame, direction);
     let refused = LineAnswer {
@@ -209,6 +214,7 @@ fn line_returns(cell: &library::Cell, line: u32, frame: u32, direction: u32) {
         ..Default::default()
     };
     assert!(answer.refusal == 0 || answer == refused, "{answer:?}");
+    assert!(in_some_mask(answer), "{answer:?}");
 }
 
 /// Who and page are refused with 3 exactly if what they are given is out of range, whatever the
@@ -221,6 +227,8 @@ fn who_returns(cell: &library::Cell, call: (u32, u32, u32, u32), odd: bool) {
     };
     let answer = library::who(cell, tn, arfcn, frame, direction);
     assert_eq!(answer == refused, odd, "{answer:?}");
+    let nobody = answer.found == 0 && answer.answer == LineAnswer::default();
+    assert!(nobody || in_some_mask(answer.answer), "{answer:?}");
 }
 
 /// AG or P of the storage may be out of range (2, before 3), its common lines misplaced (8), or none

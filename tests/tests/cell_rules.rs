@@ -256,23 +256,27 @@ fn owners() {
     script(&mut cell(0, 0), &calls);
 }
 
+/// ARFCN, MAI and position.
+type Tuned = (u32, u32, u32);
+
 /// A burst that belongs to one block.
-fn burst(arfcn: u32, channel: Channel, s: u32, owner: u32, block: u32, place: u32) -> LineAnswer {
+fn burst(tuned: Tuned, channel: Channel, s: u32, owner: u32, block: u32, place: u32) -> LineAnswer {
     LineAnswer {
-        arfcn,
         owner,
         channel: channel as u32,
         subchannel: s,
         blocks: 1,
         block,
         place,
-        ..Default::default()
+        ..idle(tuned)
     }
 }
 
-fn idle(arfcn: u32) -> LineAnswer {
+fn idle((arfcn, mai, position): Tuned) -> LineAnswer {
     LineAnswer {
         arfcn,
+        mai,
+        position,
         ..Default::default()
     }
 }
@@ -287,19 +291,30 @@ fn line() {
         (seize(1, 0, 65_535), 0),
     ];
     script(&mut both, &calls);
+    let c0 = (20, 0, 1);
     let tch = LineAnswer {
         blocks: 2,
         second_block: 0,
         second_place: 5,
-        ..burst(20, Tch, 0, 65_535, 1, 1)
+        ..burst((20, 1, 1), Tch, 0, 65_535, 1, 1)
     };
-    assert_eq!(both.line(0, 14, 1), burst(20, Rach, 0, 0, 2, 0));
-    assert_eq!(both.line(0, 64, 1), burst(20, Sacch, 1, 9, 0, 3));
-    assert_eq!(both.line(0, 13, 1), burst(20, Sacch, 3, 0, 0, 3));
-    assert_eq!(both.line(0, 50, 0), idle(20));
-    assert_eq!(both.line(1, 25, 0), burst(10, Sacch, 0, 65_535, 0, 0));
-    assert_eq!(both.line(1, 12, 0), idle(30));
+    assert_eq!(both.line(0, 14, 1), burst(c0, Rach, 0, 0, 2, 0));
+    assert_eq!(both.line(0, 64, 1), burst(c0, Sacch, 1, 9, 0, 3));
+    assert_eq!(both.line(0, 13, 1), burst(c0, Sacch, 3, 0, 0, 3));
+    assert_eq!(both.line(0, 50, 0), idle(c0));
+    let sacch = burst((10, 0, 0), Sacch, 0, 65_535, 0, 0);
+    assert_eq!(both.line(1, 25, 0), sacch);
+    assert_eq!(both.line(1, 12, 0), idle((30, 2, 2)));
     assert_eq!(both.line(1, 5, 0), tch);
+}
+
+fn found(line: u32, answer: LineAnswer) -> WhoAnswer {
+    WhoAnswer {
+        refusal: 0,
+        found: 1,
+        line,
+        answer,
+    }
 }
 
 #[test]
@@ -313,20 +328,15 @@ fn who() {
         (seize(63, 1, 9), 0),
     ];
     script(&mut both, &calls);
-    let found = |line, answer| WhoAnswer {
-        refusal: 0,
-        found: 1,
-        line,
-        answer,
-    };
     let nobody = WhoAnswer::default();
-    let sacch = burst(20, Sacch, 1, 9, 0, 3);
-    let sdcch = burst(10, Sdcch, 3, 0, 0, 0);
+    let c0 = (20, 0, 1);
+    let sacch = burst(c0, Sacch, 1, 9, 0, 3);
+    let sdcch = burst((10, 0, 0), Sdcch, 3, 0, 0, 0);
     assert_eq!(both.who(0, 20, 64, 1), found(63, sacch));
-    assert_eq!(both.who(0, 20, 50, 0), found(63, idle(20)));
+    assert_eq!(both.who(0, 20, 50, 0), found(63, idle(c0)));
     assert_eq!(both.who(0, 10, 64, 1), nobody);
     // FN 12 leaves 0 by three ARFCNs, so that MAIO 0, 1 and 2 are 10, 20 and 30.
-    assert_eq!(both.who(1, 30, 12, 0), found(7, idle(30)));
+    assert_eq!(both.who(1, 30, 12, 0), found(7, idle((30, 2, 2))));
     assert_eq!(both.who(1, 10, 12, 0), found(3, sdcch));
     assert_eq!(both.who(1, 20, 12, 0), nobody);
     assert_eq!(both.who(1, 40, 12, 0), nobody);
@@ -335,6 +345,27 @@ fn who() {
     script(&mut both, &[(close(7), 0)]);
     assert_eq!(both.who(1, 30, 12, 0), nobody);
     assert_eq!(both.who(2, 30, 12, 0).line, 9);
+}
+
+/// By MAI, line 2 is on 10, 30 and 40, and line 5 on 30 and 40.
+#[test]
+fn holes_in_the_mask() {
+    let mut both = cell(0, 0);
+    let calls = [
+        (open(2, (2, 13, 0, 1, 1, 0)), 0),
+        (open(5, (4, 12, 0, 1, 1, 0)), 0),
+    ];
+    script(&mut both, &calls);
+    let sacch = burst((30, 1, 2), Sacch, 0, 0, 0, 3);
+    assert_eq!(both.line(2, 12, 0), sacch);
+    assert_eq!(both.who(2, 30, 12, 0), found(2, sacch));
+    assert_eq!(both.line(2, 25, 1), idle((40, 2, 3)));
+    assert_eq!(both.line(2, 77, 1), idle((10, 0, 0)));
+    let sacch = burst((40, 1, 3), Sacch, 0, 0, 0, 2);
+    assert_eq!(both.line(5, 12, 0), sacch);
+    assert_eq!(both.who(4, 40, 12, 0), found(5, sacch));
+    assert_eq!(both.who(4, 30, 12, 0), WhoAnswer::default());
+    assert_eq!(both.who(4, 30, 25, 1), found(5, idle((30, 0, 2))));
 }
 
 #[test]

@@ -1,8 +1,9 @@
-//! The rows of document 01's drill sheet, asked of the C interface.
+//! The rows of document 01's drill sheet, asked of the C interface. Those on hopping say MAI and the
+//! position, too.
 
 use tdma_tests::frame_map::Channel;
-use tdma_tests::library::{hop, join, map, open, page, split, start, unfilled};
-use tdma_tests::library::{HopAnswer, MapAnswer, PageAnswer};
+use tdma_tests::library::{self, hop, join, map, open, page, split, start, unfilled};
+use tdma_tests::library::{HopAnswer, MapAnswer, PageAnswer, PositionAnswer};
 
 const CA: [u16; 4] = [10, 20, 30, 40];
 const DOWNLINK: u32 = 0;
@@ -15,22 +16,50 @@ fn clock() {
     assert_eq!((join(0, 25, 0).refusal, join(0, 25, 0).frame), (0, 51));
 }
 
+/// Mask, HSN, MAIO and frame; ARFCN, MAI and position.
+type Row = ((u64, u32, u32, u32), (u32, u32, u32));
+
+fn ask(rows: &[Row]) {
+    for &((mask, hsn, maio, frame), (arfcn, mai, position)) in rows {
+        let answer = HopAnswer {
+            refusal: 0,
+            arfcn,
+            mai,
+            position,
+        };
+        assert_eq!(hop(&CA, mask, hsn, maio, frame), answer, "mask {mask}");
+        let answer = PositionAnswer {
+            refusal: 0,
+            position,
+            mai,
+        };
+        let told = library::position(4, mask, hsn, maio, frame);
+        assert_eq!(told, answer, "mask {mask}");
+    }
+}
+
 #[test]
 fn hopping() {
-    let rows = [
-        (7, 0, 2, 5, 20),
-        (7, 1, 0, 0, 30),
-        (7, 1, 0, 2, 30),
-        (7, 1, 0, 4, 10),
-        (7, 1, 1, 0, 10),
-        (15, 1, 0, 3, 30),
-    ];
-    for (mask, hsn, maio, frame, arfcn) in rows {
-        assert_eq!(
-            hop(&CA, mask, hsn, maio, frame),
-            HopAnswer { refusal: 0, arfcn }
-        );
-    }
+    ask(&[
+        ((7, 0, 2, 5), (20, 1, 1)),
+        ((7, 1, 0, 0), (30, 2, 2)),
+        ((7, 1, 0, 2), (30, 2, 2)),
+        ((7, 1, 0, 4), (10, 0, 0)),
+        ((7, 1, 1, 0), (10, 0, 0)),
+        ((15, 1, 0, 3), (30, 2, 2)),
+    ]);
+}
+
+/// Beside the sheet: with a hole in the mask, MAI is below the position.
+#[test]
+fn hopping_over_holes() {
+    ask(&[
+        ((1, 1, 0, 3), (10, 0, 0)),
+        ((8, 1, 0, 3), (40, 0, 3)),
+        ((14, 1, 0, 0), (40, 2, 3)),
+        ((14, 1, 0, 4), (20, 0, 1)),
+        ((10, 0, 1, 0), (40, 1, 3)),
+    ]);
 }
 
 /// A burst of one block.

@@ -5,7 +5,7 @@ use tdma_tests::clock::{split, HYPERFRAME};
 use tdma_tests::hopping::{address, hop, is_cell_allocation, position, positions, RNTABLE};
 use tdma_tests::library::{self, HopAnswer, PositionAnswer};
 use tdma_tests::random::Random;
-use tdma_tests::CELL_ALLOCATION;
+use tdma_tests::{placed, CELL_ALLOCATION, OUT_OF_RANGE};
 
 #[derive(Clone, Debug)]
 struct Case {
@@ -29,6 +29,7 @@ impl Case {
         let answer = library::hop(ca, mask, hsn, maio, frame);
         let second = HopAnswer::from(hop(ca, mask, hsn, maio, frame));
         assert_eq!(answer, second, "{self:?}");
+        assert!(placed::hop(ca, mask, answer), "{answer:?}, {self:?}");
         self.compare_position(ca.len() as u32);
         answer.refusal
     }
@@ -45,6 +46,8 @@ impl Case {
         let answer = library::position(length, mask, hsn, maio, frame);
         let second = PositionAnswer::from(position(length, mask, hsn, maio, frame));
         assert_eq!(answer, second, "length {length}, {self:?}");
+        let placed = placed::position(length, mask, answer);
+        assert!(placed, "{answer:?}, length {length}, {self:?}");
         answer.refusal
     }
 
@@ -275,6 +278,83 @@ fn every_value_at_its_largest() {
             "{case:?}"
         );
         assert_eq!(refusal == 0, faults == 0, "{case:?}");
+    }
+}
+
+/// Entry p is ARFCN 16p + 15.
+fn longest_allocation() -> Vec<u16> {
+    (0..64).map(|p| 16 * p + 15).collect()
+}
+
+/// Masks of a cell allocation of 64 entries: all of it, its ends, and with holes.
+const MASKS: [u64; 8] = [
+    u64::MAX,
+    1,
+    1 << 63,
+    1 << 63 | 1,
+    1 << 63 | 1 << 3 | 1 << 1,
+    u64::MAX << 1,
+    u64::MAX >> 1,
+    0xaaaa_aaaa_aaaa_aaaa,
+];
+
+/// The last three are none.
+const FRAMES: [u32; 9] = [
+    0,
+    1,
+    51,
+    1326,
+    HYPERFRAME - 2,
+    HYPERFRAME - 1,
+    HYPERFRAME,
+    1 << 31,
+    u32::MAX,
+];
+
+#[test]
+fn masks_at_the_edges() {
+    for (mask, hsn) in MASKS.iter().flat_map(|&m| (0..64).map(move |hsn| (m, hsn))) {
+        let last = positions(mask).len() as u32 - 1;
+        for (maio, frame) in FRAMES.iter().flat_map(|&f| [(0, f), (last, f)]) {
+            let case = Case {
+                ca: longest_allocation(),
+                mask,
+                hsn,
+                maio,
+                frame,
+            };
+            let refusal = if frame < HYPERFRAME { 0 } else { OUT_OF_RANGE };
+            assert_eq!(case.compare(), refusal, "{case:?}");
+        }
+    }
+}
+
+/// With HSN 0, MAI goes on by one with each frame.
+#[test]
+fn mai_and_position_in_turn() {
+    let ca = longest_allocation();
+    let kinds: [(u64, &[u32]); 4] = [
+        (1 << 63, &[63]),
+        (1 << 63 | 1 << 3 | 1 << 1, &[1, 3, 63]),
+        (1 << 63 | 1 << 2, &[2, 63]),
+        (3 << 31, &[31, 32]),
+    ];
+    for (mask, places) in kinds {
+        let n = places.len() as u32;
+        for frame in (0..7).chain(HYPERFRAME - 7..HYPERFRAME) {
+            for maio in 0..n {
+                let mai = (frame + maio) % n;
+                let position = places[mai as usize];
+                let answer = HopAnswer {
+                    refusal: 0,
+                    arfcn: 16 * position + 15,
+                    mai,
+                    position,
+                };
+                let told = library::hop(&ca, mask, 0, maio, frame);
+                assert_eq!(told, answer, "mask {mask:#x}, MAIO {maio}, FN {frame}");
+            }
+        }
     }
 }
 

@@ -2,12 +2,14 @@
 //! runs, which is the one drawn today and meets everything, and random scripts.
 
 use std::collections::{BTreeMap, BTreeSet};
+use tdma_tests::cell::Cell;
 use tdma_tests::clock::HYPERFRAME;
 use tdma_tests::command::{read, Command, Fault, NAMES};
+use tdma_tests::library::HopAnswer;
 use tdma_tests::program::{self, Way};
-use tdma_tests::schedule::{lines, run};
+use tdma_tests::schedule::{lines, run, Session};
 use tdma_tests::script::{self, Asked, Script};
-use tdma_tests::{CLASH, FIXED_BIT};
+use tdma_tests::{placed, CLASH, FIXED_BIT};
 
 /// A script for each.
 const SEEDS: std::ops::Range<u64> = 1_000..1_200;
@@ -174,6 +176,44 @@ fn the_gates_script_meets_everything() {
         .iter()
         .any(|&(.., frame, count)| past_the_turn(frame, count)));
     assert!(input.iter().any(|&byte| byte > 127) && input.contains(&0));
+}
+
+/// Whether the ARFCN, MAI and position of an accepted hop, line or who belong together, by the mask
+/// that it is about. Other answers have none.
+fn belongs(cell: &Cell, command: &Command, answer: &str) -> Option<bool> {
+    let words = answer.strip_prefix("ok ")?.split_whitespace();
+    let words: Vec<&str> = words.collect();
+    let number = |at: usize| words[at].parse::<u32>().expect("a number");
+    let (ca, mask, at) = match *command {
+        Command::Hop(mask, _, ref ca) => (ca, mask, 0),
+        Command::Line([line, ..]) => (&cell.plan.ca, cell.mask(line), 0),
+        Command::Who(_) if words[0] != "nobody" => (&cell.plan.ca, cell.mask(number(0)), 1),
+        _ => return None,
+    };
+    let answer = HopAnswer {
+        refusal: 0,
+        arfcn: number(at),
+        mai: number(at + 1),
+        position: number(at + 2),
+    };
+    Some(placed::hop(ca, mask, answer))
+}
+
+#[test]
+fn the_gates_hops_are_placed() {
+    let (mut session, mut count) = (Session::default(), 0);
+    for Asked { line, answer } in script::gate().asked {
+        session.answer(&line);
+        let Ok(command) = read(&line) else { continue };
+        let answer = String::from_utf8_lossy(&answer);
+        let line = String::from_utf8_lossy(&line);
+        if let Some(belongs) = belongs(&session.cell, &command, &answer) {
+            assert!(belongs, "{line}: {answer}");
+            count += 1;
+        }
+    }
+    println!("{count} answers");
+    assert!(count > 500);
 }
 
 #[test]

@@ -34,12 +34,19 @@ fn rows(text: &str, heading: &str) -> Vec<String> {
     .collect()
 }
 
-/// The first column of the tables in a section of the format, without the backticks.
-fn format_rows(section: &str) -> Vec<&'static str> {
+/// The rows of the tables in a section of the format, each with what stands in backticks.
+fn format_table(section: &str) -> Vec<Vec<&'static str>> {
     let text = FORMAT.split(section).nth(1).expect("the section");
     let text = text.split("\n## ").next().unwrap_or_default();
-    let rows = text.lines().filter_map(|line| line.strip_prefix("| `"));
-    rows.filter_map(|row| row.split('`').next()).collect()
+    let rows = text.lines().filter(|line| line.starts_with("| `"));
+    rows.map(|row| row.split('`').skip(1).step_by(2).collect())
+        .collect()
+}
+
+/// The first column of these tables.
+fn format_rows(section: &str) -> Vec<&'static str> {
+    let rows = format_table(section).into_iter();
+    rows.map(|row| row[0]).collect()
 }
 
 /// The lines of the format that are set as text behind a line.
@@ -127,6 +134,18 @@ fn the_format_has_the_same_commands_and_every_reason() {
     let reasons: BTreeSet<&str> = Fault::ALL.iter().map(|fault| fault.reason()).collect();
     let told: BTreeSet<&str> = format_rows("\n## Errors\n").into_iter().collect();
     assert_eq!(told, reasons);
+}
+
+/// Behind each command, what begins with "ok".
+#[test]
+fn the_format_has_the_same_answers() {
+    let help = Vec::from_iter(help().split_whitespace()).join(" ");
+    for row in format_table("\n## Commands\n") {
+        let mut words = vec![row[0]];
+        words.extend(row.iter().filter(|words| words.starts_with("ok")));
+        let told = words.join(" ");
+        assert!(help.contains(&told), "{told}");
+    }
 }
 
 #[test]

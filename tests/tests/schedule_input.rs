@@ -94,7 +94,7 @@ fn long_lines(length: usize) -> Vec<(Vec<u8>, &'static str)> {
         (listed("hop 1 0 0 0", length), "refused 1"),
         (listed("start 7 0 0 2", length), "refused 1"),
         (padded("start 7 0 0 2 7", b' ', length), "ok"),
-        (padded_inside("hop 1 0 0 0 7", b' ', length), "ok 7"),
+        (padded_inside("hop 1 0 0 0 7", b' ', length), "ok 7 0 0"),
         (padded("page 1", b'1', length - 2), "error too few words"),
         (padded("build sync 0", b'0', length), "refused 14"),
         (padded("take normal 0 1", b'1', length), "refused 14"),

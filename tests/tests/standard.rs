@@ -105,8 +105,8 @@ fn the_table_that_the_library_hops_by() {
             for t2 in 0..26 {
                 let frame = library::join(t1, t2, t3 as u32).frame;
                 let told = library::position(64, u64::MAX, hsn, 0, frame);
-                assert_eq!(told.refusal, 0);
-                possible.retain(|&entry| index(entry, t2, t3 as u32, 64) == told.position);
+                assert_eq!((told.refusal, told.mai), (0, told.position));
+                possible.retain(|&entry| index(entry, t2, t3 as u32, 64) == told.mai);
             }
         }
         let entry = RNTABLE[at as usize / 10][at as usize % 10];

@@ -1,8 +1,8 @@
 //! Who is on an ARFCN: the library beside the book of open lines, in cells after random lists of
-//! calls; and beside the library's own answers for each line.
+//! calls and with masks at the edges; and beside the library's own answers for each line.
 
 use std::collections::BTreeMap;
-use tdma_tests::calls::Both;
+use tdma_tests::calls::{Both, Call};
 use tdma_tests::clock::HYPERFRAME;
 use tdma_tests::frame_map::Channel;
 use tdma_tests::library::{self, WhoAnswer};
@@ -162,6 +162,46 @@ fn who_and_line_agree() {
     }
     println!("named {sum}");
     assert!(sum > 10_000);
+}
+
+/// Lines on the whole of a cell allocation of 64 entries, on its last entry alone and on positions 1,
+/// 3 and 63, with MAIO 0 and the last one.
+fn at_the_edges(random: &mut Random, hsn: u32) -> Both {
+    let mut both = Both::started(&draw::plan_of(random, 64));
+    let lines = [
+        (0, u64::MAX, 0),
+        (0, u64::MAX, 63),
+        (1, 1 << 63, 0),
+        (2, 1 << 63 | 1 << 3 | 1 << 1, 0),
+        (2, 1 << 63 | 1 << 3 | 1 << 1, 2),
+    ];
+    for (line, (tn, mask, maio)) in (0..).zip(lines) {
+        let open = Call::Open(line, (tn, mask, hsn, maio, 1, 0).into());
+        assert_eq!(both.make(&open), 0, "{open:?}");
+    }
+    both
+}
+
+#[test]
+fn masks_at_the_edges() {
+    let (mut random, mut tally) = (Random(22), Tally::default());
+    for hsn in 0..64 {
+        let both = at_the_edges(&mut random, hsn);
+        let arfcns: Vec<u32> = both.second.plan.ca.iter().map(|&a| a.into()).collect();
+        for frame in [0, 1, 12, 25, HYPERFRAME - 1] {
+            for line in 0..64 {
+                both.line(line, frame, 0);
+            }
+            ask_all(&both, &arfcns, frame, &mut tally);
+        }
+        for frame in ODD_FRAMES {
+            assert_eq!(both.line(0, frame, 0).refusal, OUT_OF_RANGE);
+        }
+    }
+    println!("{tally:?}");
+    assert_eq!(Vec::from_iter(tally.lines.keys()), [&0, &1, &2, &3, &4]);
+    assert!(tally.channels.contains_key(&(Channel::Idle as u32, false)));
+    assert!(tally.nobody[0] > 1000);
 }
 
 #[test]

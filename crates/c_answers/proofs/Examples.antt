@@ -2,10 +2,11 @@
 use mathlib.Core.Path.{refl}
 use Rattle.answers.specs.Outcome.{decide, any_of}
 use Rattle.clock.specs.Clock.{prime_of}
+use Rattle.maps.specs.Numbers.{standing_numbers}
 use Rattle.c_answers.specs.Examples.{Examples}
 
 pub examples : Examples
-unfolding decide any_of prime_of
+unfolding decide any_of prime_of standing_numbers
 examples =
     record {
       clash_with_line_1 = refl;
@@ -21,4 +22,9 @@ examples =
       no_position = refl;
       arfcn_1023 = refl;
       no_arfcn = refl;
+      full_rate = refl;
+      idle = refl;
+      closed = refl;
+      tn_8 = refl;
+      no_line = refl;
     }

@@ -5,7 +5,15 @@ use Rattle.answers.specs.Outcome.{refused, accepted, alone}
 use Rattle.answers.specs.Refusals.{refusal_of}
 use Rattle.answers.specs.declared.Refusal.TheVariants.{OutOfRange, Clash, FixedBit}
 use Rattle.clock.specs.Clock.{split_of, join_of}
-use Rattle.c_answers.specs.Numbers.{answer_numbers, split_numbers, join_numbers, position_numbers, hop_numbers}
+use Rattle.hops.specs.declared.Tuning.{Tuning}
+use Rattle.maps.specs.declared.Kind.TheVariants.{Sacch}
+use Rattle.maps.specs.declared.Blocks.TheVariants.{One}
+use Rattle.maps.specs.declared.Content.TheVariants.{Channel, Idle}
+use Rattle.c_answers.specs.Numbers.{answer_numbers, split_numbers, join_numbers, position_numbers, hop_numbers, told_line, told_who}
+
+-- tuned to the last entry of the longest CA, by the third one of a mask
+abbrev pub last_entry : Tuning
+last_entry = record { arfcn = 1023; mai = 2; position = 63 }
 
 pub record Examples : Type 0 where
   -- "It comes alone, except 9 and 15": with the line in the way, and with the bit
@@ -20,8 +28,19 @@ pub record Examples : Type 0 where
   pub past_the_last : split_numbers (split_of 2715648) ≡ record { refusal = 3; t1 = 0; t2 = 0; t3 = 0; given = 0; prime = 0 }
   pub frame_51 : join_numbers (join_of 0 25 0) ≡ record { refusal = 0; frame = 51 }
   pub t1_2048 : join_numbers (join_of 2048 0 0) ≡ record { refusal = 14; frame = 0 }
-  -- a position and an ARFCN, and none
-  pub position_63 : position_numbers (accepted 63) ≡ record { refusal = 0; position = 63 }
-  pub no_position : position_numbers (refused (alone 5)) ≡ record { refusal = 5; position = 0 }
-  pub arfcn_1023 : hop_numbers (accepted 1023) ≡ record { refusal = 0; arfcn = 1023 }
-  pub no_arfcn : hop_numbers (refused (alone 1)) ≡ record { refusal = 1; arfcn = 0 }
+  -- MAI and a position, with an ARFCN, and none of them
+  pub position_63 : position_numbers (accepted (record { mai = 2; position = 63 })) ≡ record { refusal = 0; position = 63; mai = 2 }
+  pub no_position : position_numbers (refused (alone 5)) ≡ record { refusal = 5; position = 0; mai = 0 }
+  pub arfcn_1023 : hop_numbers (accepted last_entry) ≡ record { refusal = 0; arfcn = 1023; mai = 2; position = 63 }
+  pub no_arfcn : hop_numbers (refused (alone 1)) ≡ record { refusal = 1; arfcn = 0; mai = 0; position = 0 }
+  -- what a line sends, and one that is idle: MAI and the position too; refused, and for nobody, every number but the refusal is 0
+  pub full_rate : told_line (accepted (record { tuning = last_entry; content = Channel (record { kind = Sacch; subchannel = 1; blocks = One (record { block = 0; place = 3 }) }); owner = 77 }))
+      ≡ record { refusal = 0; arfcn = 1023; owner = 77; channel = 2; subchannel = 1; blocks = 1; block = 0; place = 3; block2 = 0; place2 = 0; mai = 2; position = 63 }
+  pub idle : told_line (accepted (record { tuning = last_entry; content = Idle; owner = 0 }))
+      ≡ record { refusal = 0; arfcn = 1023; owner = 0; channel = 0; subchannel = 0; blocks = 0; block = 0; place = 0; block2 = 0; place2 = 0; mai = 2; position = 63 }
+  pub closed : told_line (refused (alone 7))
+      ≡ record { refusal = 7; arfcn = 0; owner = 0; channel = 0; subchannel = 0; blocks = 0; block = 0; place = 0; block2 = 0; place2 = 0; mai = 0; position = 0 }
+  pub tn_8 : told_who (refused (alone 3))
+      ≡ record { refusal = 3; found = 0; line = 0; answer = record { refusal = 0; arfcn = 0; owner = 0; channel = 0; subchannel = 0; blocks = 0; block = 0; place = 0; block2 = 0; place2 = 0; mai = 0; position = 0 } }
+  pub no_line : told_who (accepted none)
+      ≡ record { refusal = 0; found = 0; line = 0; answer = record { refusal = 0; arfcn = 0; owner = 0; channel = 0; subchannel = 0; blocks = 0; block = 0; place = 0; block2 = 0; place2 = 0; mai = 0; position = 0 } }

@@ -7,8 +7,10 @@ use Rattle.clock.specs.declared.Frame.{Frame}
 use Rattle.clock.specs.Clock.{prime_of}
 use Rattle.maps.specs.Channels.{Standing}
 use Rattle.groups.specs.declared.PagingBlock.{PagingBlock}
-use Rattle.maps.specs.declared.Found.{Found}
-use Rattle.maps.specs.declared.OnAir.{OnAir}
+use Rattle.hops.specs.declared.Selection.{Selection}
+use Rattle.hops.specs.declared.Tuning.{Tuning}
+use Rattle.slots.specs.declared.Found.{Found}
+use Rattle.slots.specs.declared.OnAir.{OnAir}
 use Rattle.maps.specs.Map.{carried}
 use Rattle.maps.specs.Numbers.{Numbers, no_numbers, standing_numbers, numbers_of}
 use Rattle.c_answers.specs.declared.TdmaAnswer.{TdmaAnswer}
@@ -55,13 +57,20 @@ abbrev pub join_numbers : Outcome ℕ → TdmaJoin
 join_numbers (refused r) = record { refusal = r.number; frame = 0 }
 join_numbers (accepted fn) = record { refusal = 0; frame = fn }
 
-abbrev pub position_numbers : Outcome ℕ → TdmaPosition
-position_numbers (refused r) = record { refusal = r.number; position = 0 }
-position_numbers (accepted p) = record { refusal = 0; position = p }
+abbrev pub position_numbers : Outcome Selection → TdmaPosition
+position_numbers (refused r) = record { refusal = r.number; position = 0; mai = 0 }
+position_numbers (accepted s) = record { refusal = 0; position = s.position; mai = s.mai }
 
-abbrev pub hop_numbers : Outcome ℕ → TdmaHop
-hop_numbers (refused r) = record { refusal = r.number; arfcn = 0 }
-hop_numbers (accepted a) = record { refusal = 0; arfcn = a }
+-- where there is nothing to be tuned to: a refusal, and nobody
+abbrev pub no_tuning : Tuning
+no_tuning = record { arfcn = 0; mai = 0; position = 0 }
+
+abbrev pub hop_fields : ℕ → Tuning → TdmaHop
+hop_fields refusal t = record { refusal = refusal; arfcn = t.arfcn; mai = t.mai; position = t.position }
+
+abbrev pub hop_numbers : Outcome Tuning → TdmaHop
+hop_numbers (refused r) = hop_fields r.number no_tuning
+hop_numbers (accepted t) = hop_fields 0 t
 
 abbrev pub map_fields : Numbers → TdmaMap
 map_fields n =
@@ -70,21 +79,21 @@ map_fields n =
 abbrev pub map_numbers : Outcome (List Standing) → TdmaMap
 map_numbers m = map_fields (numbers_of m)
 
-abbrev pub line_fields : ℕ → ℕ → Numbers → TdmaLine
-line_fields arfcn owner n =
-    record { refusal = n.refusal; arfcn = arfcn; owner = owner; channel = n.channel; subchannel = n.subchannel; blocks = n.blocks; block = n.block; place = n.place; block2 = n.block2; place2 = n.place2 }
+abbrev pub line_fields : Tuning → ℕ → Numbers → TdmaLine
+line_fields t owner n =
+    record { refusal = n.refusal; arfcn = t.arfcn; owner = owner; channel = n.channel; subchannel = n.subchannel; blocks = n.blocks; block = n.block; place = n.place; block2 = n.block2; place2 = n.place2; mai = t.mai; position = t.position }
 
 -- what a line sends
 abbrev pub on_air_numbers : OnAir → TdmaLine
-on_air_numbers a = line_fields a.arfcn a.owner (standing_numbers (carried a.content))
+on_air_numbers a = line_fields a.tuning a.owner (standing_numbers (carried a.content))
 
 abbrev pub told_line : Outcome OnAir → TdmaLine
-told_line (refused r) = line_fields 0 0 (no_numbers r.number)
+told_line (refused r) = line_fields no_tuning 0 (no_numbers r.number)
 told_line (accepted a) = on_air_numbers a
 
 -- nobody, or a refusal: every other number is 0
 abbrev pub nobody : ℕ → TdmaWho
-nobody refusal = record { refusal = refusal; found = 0; line = 0; answer = line_fields 0 0 (no_numbers 0) }
+nobody refusal = record { refusal = refusal; found = 0; line = 0; answer = line_fields no_tuning 0 (no_numbers 0) }
 
 abbrev pub told_who : Outcome (Option Found) → TdmaWho
 told_who (refused r) = nobody r.number

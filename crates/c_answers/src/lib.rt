@@ -5,7 +5,9 @@
 use answers::Refusal;
 use clock::Frame;
 use groups::PagingBlock;
-use maps::{Blocks, Content, Found, OnAir};
+use hops::{Selection, Tuning};
+use maps::{Blocks, Content};
+use slots::{Found, OnAir};
 
 // T1, T2, T3, and T3' where `given` is 1.
 #[repr(C)]
@@ -31,6 +33,7 @@ pub struct TdmaJoin {
 pub struct TdmaPosition {
     pub refusal: u32,
     pub position: u32,
+    pub mai: u32,
 }
 
 #[repr(C)]
@@ -38,6 +41,8 @@ pub struct TdmaPosition {
 pub struct TdmaHop {
     pub refusal: u32,
     pub arfcn: u32,
+    pub mai: u32,
+    pub position: u32,
 }
 
 // The channel, 0 for idle, its subchannel, and as many blocks and places as `blocks` says. Bytes, so that the answer fits one register.
@@ -62,7 +67,7 @@ pub struct TdmaAnswer {
     pub value: u32,
 }
 
-// The ARFCN and the owner; the channel, 0 for idle, its subchannel, and as many blocks and places as `blocks` says.
+// The ARFCN and the owner; the channel, 0 for idle, its subchannel, and as many blocks and places as `blocks` says; MAI and the position.
 #[repr(C)]
 #[derive(Clone, Copy, Default, PartialEq, Eq)]
 pub struct TdmaLine {
@@ -76,6 +81,8 @@ pub struct TdmaLine {
     pub place: u32,
     pub block2: u32,
     pub place2: u32,
+    pub mai: u32,
+    pub position: u32,
 }
 
 // The line that was found (`found` 1) and its answer, or nobody (0).
@@ -144,7 +151,6 @@ impl From<Result<Frame, Refusal>> for TdmaSplit {
     }
 }
 
-// Join, position and hop have a struct of the header each, with its own name for the number, and so an impl each.
 impl From<Result<u32, Refusal>> for TdmaJoin {
     ghost use Rattle.std.specs.Prelude.{◌≡◌};
     ghost use Rattle.answers.specs.Refusals.{outcome_of};
@@ -163,40 +169,52 @@ impl From<Result<u32, Refusal>> for TdmaJoin {
     }
 }
 
-impl From<Result<u32, Refusal>> for TdmaPosition {
+impl From<Result<Selection, Refusal>> for TdmaPosition {
     ghost use Rattle.std.specs.Prelude.{◌≡◌};
     ghost use Rattle.answers.specs.Refusals.{outcome_of};
     ghost use Rattle.c_answers.specs.Numbers.{position_numbers};
 
     ghost from_gives = { λ answer numbers. numbers ≡ position_numbers (outcome_of answer) };
 
-    fn from(answer: Result<u32, Refusal>) -> TdmaPosition {
+    fn from(answer: Result<Selection, Refusal>) -> TdmaPosition {
         match answer {
-            Ok(position) => TdmaPosition {
+            Ok(Selection { mai, position }) => TdmaPosition {
                 refusal: 0,
                 position,
+                mai,
             },
             Err(refusal) => TdmaPosition {
                 refusal: refusal.number(),
-                position: 0,
+                ..TdmaPosition::default()
             },
         }
     }
 }
 
-impl From<Result<u32, Refusal>> for TdmaHop {
+impl From<Result<Tuning, Refusal>> for TdmaHop {
     ghost use Rattle.std.specs.Prelude.{◌≡◌};
     ghost use Rattle.answers.specs.Refusals.{outcome_of};
     ghost use Rattle.c_answers.specs.Numbers.{hop_numbers};
 
     ghost from_gives = { λ answer numbers. numbers ≡ hop_numbers (outcome_of answer) };
 
-    fn from(answer: Result<u32, Refusal>) -> TdmaHop {
+    fn from(answer: Result<Tuning, Refusal>) -> TdmaHop {
         match answer {
-            Ok(arfcn) => TdmaHop { refusal: 0, arfcn },
+            Ok(
+                Tuning {
+                    arfcn,
+                    mai,
+                    position,
+                },
+            ) => TdmaHop {
+                refusal: 0,
+                arfcn,
+                mai,
+                position,
+            },
             Err(refusal) => TdmaHop {
                 refusal: refusal.number(),
-                arfcn: 0,
+                ..TdmaHop::default()
             },
         }
     }
@@ -211,8 +229,10 @@ impl From<OnAir> for TdmaLine {
     #[tactic(auto, unfolding(maps::specs::Numbers::standing_numbers))]
     fn from(on_air: OnAir) -> TdmaLine {
         let idle = TdmaLine {
-            arfcn: on_air.arfcn,
+            arfcn: on_air.tuning.arfcn,
             owner: on_air.owner,
+            mai: on_air.tuning.mai,
+            position: on_air.tuning.position,
             ..TdmaLine::default()
         };
         let Content::Channel(burst) = on_air.content else {

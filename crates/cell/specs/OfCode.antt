@@ -5,7 +5,7 @@ use Rattle.answers.specs.Outcome.{accepted}
 use Rattle.answers.specs.Ranges.{hyperframe}
 use Rattle.answers.specs.Refusals.{outcome_by}
 use Rattle.answers.specs.declared.Refusal.{Refusal}
-use Rattle.maps.specs.declared.OnAir.{OnAir}
+use Rattle.slots.specs.declared.OnAir.{OnAir}
 use Rattle.onair.specs.Told.{slot_in}
 use Rattle.storage.specs.Words.{cell_of}
 use Rattle.rules.specs.State.{Cell}

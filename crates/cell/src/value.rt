@@ -12,8 +12,8 @@ ghost use Rattle.cell.specs.Value.{kept};
 
 use answers::Refusal;
 use groups::PagingBlock;
-use maps::{Found, OnAir};
 use rules::{Parameters, Values};
+use slots::{Found, OnAir};
 use storage::WORDS;
 
 // A cell. Nobody else can make one, or reach its words.

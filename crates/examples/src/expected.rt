@@ -7,6 +7,7 @@ ghost use Rattle.c_answers.specs.Numbers.{join_numbers, hop_numbers, map_fields,
 
 use c_answers::{TdmaAnswer, TdmaHop, TdmaJoin, TdmaLine, TdmaMap, TdmaPage, TdmaSplit, TdmaWho};
 use check::expect;
+use hops::Tuning;
 
 // The channels by their numbers in an answer: what is asked here is the C interface, whose header has these numbers.
 pub(crate) const TCH: u8 = 1;
@@ -18,6 +19,38 @@ pub(crate) const SDCCH: u8 = 3;
 pub(crate) const CCCH: u8 = 7;
 
 pub(crate) const RACH: u8 = 8;
+
+// What the sheet's lines are tuned to: ARFCN, MAI and the position. Of the masks 7, 15 and 1 MAI is the position; mask 8 has the fourth entry alone.
+pub(crate) const ON_10: Tuning = Tuning {
+    arfcn: 10,
+    mai: 0,
+    position: 0,
+};
+
+pub(crate) const ON_20: Tuning = Tuning {
+    arfcn: 20,
+    mai: 1,
+    position: 1,
+};
+
+pub(crate) const ON_30: Tuning = Tuning {
+    arfcn: 30,
+    mai: 2,
+    position: 2,
+};
+
+pub(crate) const ON_40: Tuning = Tuning {
+    arfcn: 40,
+    mai: 0,
+    position: 3,
+};
+
+// Nobody is tuned to anything.
+pub(crate) const NOWHERE: Tuning = Tuning {
+    arfcn: 0,
+    mai: 0,
+    position: 0,
+};
 
 // T1, T2 and T3, with no T3'.
 pub(crate) fn expect_split(a: TdmaSplit, t1: u32, t2: u32, t3: u32)
@@ -41,10 +74,22 @@ pub(crate) fn expect_join(a: TdmaJoin, frame: u32)
     expect(a == TdmaJoin { refusal: 0, frame });
 }
 
-pub(crate) fn expect_hop(a: TdmaHop, arfcn: u32)
-    requires { a ≡ hop_numbers (accepted arfcn) }
+pub(crate) fn expect_hop(a: TdmaHop, tuning: Tuning)
+    requires { a ≡ hop_numbers (accepted tuning) }
 {
-    expect(a == TdmaHop { refusal: 0, arfcn });
+    let Tuning {
+        arfcn,
+        mai,
+        position,
+    } = tuning;
+    expect(
+        a == TdmaHop {
+            refusal: 0,
+            arfcn,
+            mai,
+            position,
+        },
+    );
 }
 
 // A burst of one block.
@@ -83,21 +128,21 @@ fn expect_line(a: TdmaLine, b: TdmaLine)
     expect(a == b);
 }
 
-// A burst of one block: ARFCN, channel, subchannel, owner, block and place.
+// A burst of one block: what the line is tuned to, channel, subchannel, owner, block and place.
 pub(crate) fn expect_one_block(
     a: TdmaLine,
-    arfcn: u32,
+    tuning: Tuning,
     channel: u8,
     s: u32,
     owner: u32,
     block: u32,
     place: u32,
 )
-    requires { a ≡ line_fields arfcn owner (record { refusal = 0; channel = channel; subchannel = s; blocks = 1; block = block; place = place; block2 = 0; place2 = 0 }) }
+    requires { a ≡ line_fields tuning owner (record { refusal = 0; channel = channel; subchannel = s; blocks = 1; block = block; place = place; block2 = 0; place2 = 0 }) }
 {
     let b = TdmaLine {
         refusal: 0,
-        arfcn,
+        arfcn: tuning.arfcn,
         owner,
         channel: u32::from(channel),
         subchannel: s,
@@ -106,6 +151,8 @@ pub(crate) fn expect_one_block(
         place,
         block2: 0,
         place2: 0,
+        mai: tuning.mai,
+        position: tuning.position,
     };
     expect_line(a, b);
 }
@@ -113,7 +160,7 @@ pub(crate) fn expect_one_block(
 // A burst that is also of a second block.
 pub(crate) fn expect_two_blocks(
     a: TdmaLine,
-    arfcn: u32,
+    tuning: Tuning,
     channel: u8,
     s: u32,
     owner: u32,
@@ -122,11 +169,11 @@ pub(crate) fn expect_two_blocks(
     block2: u32,
     place2: u32,
 )
-    requires { a ≡ line_fields arfcn owner (record { refusal = 0; channel = channel; subchannel = s; blocks = 2; block = block; place = place; block2 = block2; place2 = place2 }) }
+    requires { a ≡ line_fields tuning owner (record { refusal = 0; channel = channel; subchannel = s; blocks = 2; block = block; place = place; block2 = block2; place2 = place2 }) }
 {
     let b = TdmaLine {
         refusal: 0,
-        arfcn,
+        arfcn: tuning.arfcn,
         owner,
         channel: u32::from(channel),
         subchannel: s,
@@ -135,15 +182,19 @@ pub(crate) fn expect_two_blocks(
         place,
         block2,
         place2,
+        mai: tuning.mai,
+        position: tuning.position,
     };
     expect_line(a, b);
 }
 
-pub(crate) fn expect_idle_line(a: TdmaLine, arfcn: u32)
-    requires { a ≡ line_fields arfcn 0 (no_numbers 0) }
+pub(crate) fn expect_idle_line(a: TdmaLine, tuning: Tuning)
+    requires { a ≡ line_fields tuning 0 (no_numbers 0) }
 {
     let idle = TdmaLine {
-        arfcn,
+        arfcn: tuning.arfcn,
+        mai: tuning.mai,
+        position: tuning.position,
         ..TdmaLine::default()
     };
     expect(a == idle);

@@ -10,9 +10,9 @@ ghost use Rattle.storage.specs.Words.{cell_of};
 ghost use Rattle.rules.specs.DrillSheet as sheet;
 
 use expected::{
-    CCCH, RACH, SACCH, SDCCH, TCH, expect_accepted, expect_burst, expect_hop, expect_idle,
-    expect_idle_line, expect_join, expect_one_block, expect_page, expect_split, expect_two_blocks,
-    expect_who,
+    CCCH, NOWHERE, ON_10, ON_20, ON_30, ON_40, RACH, SACCH, SDCCH, TCH, expect_accepted,
+    expect_burst, expect_hop, expect_idle, expect_idle_line, expect_join, expect_one_block,
+    expect_page, expect_split, expect_two_blocks, expect_who,
 };
 use storage::WORDS;
 use tdma::cells::{tdma_line, tdma_open, tdma_seize, tdma_who};
@@ -24,12 +24,12 @@ fn clock_rows() {
 }
 
 fn hop_rows() {
-    expect_hop(ask::hop(7, 0, 2, 5), 20);
-    expect_hop(ask::hop(7, 1, 0, 0), 30);
-    expect_hop(ask::hop(7, 1, 0, 2), 30);
-    expect_hop(ask::hop(7, 1, 0, 4), 10);
-    expect_hop(ask::hop(7, 1, 1, 0), 10);
-    expect_hop(ask::hop(15, 1, 0, 3), 30);
+    expect_hop(ask::hop(7, 0, 2, 5), ON_20);
+    expect_hop(ask::hop(7, 1, 0, 0), ON_30);
+    expect_hop(ask::hop(7, 1, 0, 2), ON_30);
+    expect_hop(ask::hop(7, 1, 0, 4), ON_10);
+    expect_hop(ask::hop(7, 1, 1, 0), ON_10);
+    expect_hop(ask::hop(15, 1, 0, 3), ON_30);
 }
 
 fn map_rows() {
@@ -63,22 +63,22 @@ fn traffic(cell: &mut [u32; WORDS])
 fn arfcn_rows(cell: &[u32; WORDS])
     requires { cell_of cell.now ≡ sheet.traffic }
 {
-    expect_two_blocks(tdma_line(cell, 1, 5, 0), 20, TCH, 0, 0, 1, 1, 0, 5);
-    expect_two_blocks(tdma_line(cell, 3, 0, 0), 30, TCH, 0, 0, 0, 0, 5, 4);
-    expect_two_blocks(tdma_line(cell, 3, 2, 0), 30, TCH, 0, 0, 0, 2, 5, 6);
-    expect_two_blocks(tdma_line(cell, 3, 4, 0), 10, TCH, 0, 0, 1, 0, 0, 4);
-    expect_two_blocks(tdma_line(cell, 4, 0, 0), 10, TCH, 0, 0, 0, 0, 5, 4);
-    expect_one_block(tdma_line(cell, 5, 3, 0), 30, SDCCH, 0, 0, 0, 3);
+    expect_two_blocks(tdma_line(cell, 1, 5, 0), ON_20, TCH, 0, 0, 1, 1, 0, 5);
+    expect_two_blocks(tdma_line(cell, 3, 0, 0), ON_30, TCH, 0, 0, 0, 0, 5, 4);
+    expect_two_blocks(tdma_line(cell, 3, 2, 0), ON_30, TCH, 0, 0, 0, 2, 5, 6);
+    expect_two_blocks(tdma_line(cell, 3, 4, 0), ON_10, TCH, 0, 0, 1, 0, 0, 4);
+    expect_two_blocks(tdma_line(cell, 4, 0, 0), ON_10, TCH, 0, 0, 0, 0, 5, 4);
+    expect_one_block(tdma_line(cell, 5, 3, 0), ON_30, SDCCH, 0, 0, 0, 3);
 }
 
 // The rows on traffic and SDCCH.
 fn traffic_rows(cell: &[u32; WORDS])
     requires { cell_of cell.now ≡ sheet.traffic }
 {
-    expect_one_block(tdma_line(cell, 1, 25, 0), 10, SACCH, 0, 0, 0, 0);
-    expect_idle_line(tdma_line(cell, 1, 12, 0), 30);
-    expect_one_block(tdma_line(cell, 2, 12, 0), 40, SACCH, 0, 0, 0, 0);
-    expect_one_block(tdma_line(cell, 5, 102, 1), 30, SACCH, 5, 77, 0, 0);
+    expect_one_block(tdma_line(cell, 1, 25, 0), ON_10, SACCH, 0, 0, 0, 0);
+    expect_idle_line(tdma_line(cell, 1, 12, 0), ON_30);
+    expect_one_block(tdma_line(cell, 2, 12, 0), ON_40, SACCH, 0, 0, 0, 0);
+    expect_one_block(tdma_line(cell, 5, 102, 1), ON_30, SACCH, 5, 77, 0, 0);
 }
 
 // The row on paging, and the paged block on the air.
@@ -86,7 +86,7 @@ fn page_rows(cell: &[u32; WORDS])
     requires { cell_of cell.now ≡ sheet.traffic }
 {
     expect_page(ask::page(cell, 0), 0, 4, 26);
-    expect_one_block(tdma_line(cell, 0, 26, 0), 10, CCCH, 0, 0, 4, 0);
+    expect_one_block(tdma_line(cell, 0, 26, 0), ON_10, CCCH, 0, 0, 4, 0);
 }
 
 // Not of the sheet: who sends what the first row of `arfcn_rows` has, and an ARFCN that nobody has then.
@@ -94,9 +94,9 @@ fn who_rows(cell: &[u32; WORDS])
     requires { cell_of cell.now ≡ sheet.traffic }
 {
     let answer = expect_who(tdma_who(cell, 1, 20, 5, 0), 1, 1);
-    expect_two_blocks(answer, 20, TCH, 0, 0, 1, 1, 0, 5);
+    expect_two_blocks(answer, ON_20, TCH, 0, 0, 1, 1, 0, 5);
     let answer = expect_who(tdma_who(cell, 1, 10, 5, 0), 0, 0);
-    expect_idle_line(answer, 0);
+    expect_idle_line(answer, NOWHERE);
 }
 
 // The cell for the rows on combination 5.
@@ -111,9 +111,9 @@ fn combined(cell: &mut [u32; WORDS])
 fn combined_rows(cell: &[u32; WORDS])
     requires { cell_of cell.now ≡ sheet.combined }
 {
-    expect_one_block(tdma_line(cell, 0, 13, 1), 10, SACCH, 3, 78, 0, 3);
-    expect_one_block(tdma_line(cell, 0, 14, 1), 10, RACH, 0, 0, 2, 0);
-    expect_one_block(tdma_line(cell, 0, 64, 1), 10, SACCH, 1, 0, 0, 3);
+    expect_one_block(tdma_line(cell, 0, 13, 1), ON_10, SACCH, 3, 78, 0, 3);
+    expect_one_block(tdma_line(cell, 0, 14, 1), ON_10, RACH, 0, 0, 2, 0);
+    expect_one_block(tdma_line(cell, 0, 64, 1), ON_10, SACCH, 1, 0, 0, 3);
 }
 
 fn main() {

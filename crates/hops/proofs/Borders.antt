@@ -20,11 +20,14 @@ borders =
       no_mask = refl;
       maio = refl;
       no_maio = refl;
-      lowest = refl;
+      lowest_of_hop = refl;
+      lowest_of_position = refl;
       cyclic = refl;
       random = refl;
       random_63 = refl;
       bits = refl;
+      holes = refl;
+      entries = refl;
       clashes = refl;
       no_clash = refl;
     }

@@ -15,9 +15,11 @@ use Rattle.answers.proofs.Decide.{fair_answer, passes, decide_answered, answered
 use Rattle.answers.proofs.Search.{all_at}
 use Rattle.hops.specs.Masks.{ones, one_at_or_above}
 use Rattle.hops.specs.Allocation.{is_allocation}
-use Rattle.hops.specs.Hopping.{rntable, line_position, line_arfcn, hopping_causes, position_causes, position_of, hop_causes, hop_of}
+use Rattle.hops.specs.Hopping.{rntable, line_arfcn, line_selection, tuned, line_tuning, hopping_causes, position_causes, position_of, hop_causes, hop_of}
 use Rattle.hops.specs.Clash.{Physical}
-use Rattle.hops.specs.Claims.{FairCalls, Apart, AtOne, Position, entry_at, ByPosition, Nbin, Rntable, OneAtOrAbove, ClashIsSymmetric, Words}
+use Rattle.hops.specs.declared.Selection.{Selection}
+use Rattle.hops.specs.declared.Tuning.{Tuning}
+use Rattle.hops.specs.Claims.{FairCalls, Apart, AtOne, Position, tuned_by, ByPosition, Nbin, Rntable, OneAtOrAbove, ClashIsSymmetric, Words}
 use Rattle.hops.proofs.Apart.{Fit, apart, sized, clash_sym, line_one, line_within}
 use Rattle.hops.proofs.Bits.{count_ones, share_and, above_shift, above_bit, bit_above, bit_past}
 use Rattle.hops.proofs.Causes.{position_ascends, hop_ascends}
@@ -34,32 +36,39 @@ fair_calls =
 -- ---- what an accepted call shows
 
 module _ (size m hsn maio fn : ℕ) (free : NoCause (hopping_causes size m hsn maio fn)) where
-  within : one_at_or_above m size ≡ false
+  pub within : one_at_or_above m size ≡ false
   within = free.1.0.1.0
 
-  maio_below : maio < ones m
+  pub maio_below : maio < ones m
   maio_below = ltb-true _ _ (not-false _ free.1.1.0.0)
 
 pub position : Position
 unfolding Position position_of
-position size m hsn maio fn p e =
-    let w = accepted_has_none (line_position m hsn maio fn) (position_causes size m hsn maio fn) p e in
+position size m hsn maio fn s e =
+    let w = accepted_has_none (line_selection m hsn maio fn) (position_causes size m hsn maio fn) s e in
     let h = maio_below size m hsn maio fn w.1.1 in
     let o = line_one m hsn maio fn h in
     subst (AtOne size m hsn maio fn) w.0
     (record {
       is_one = o.one;
       mai_ones_below = o.rank;
+      mai_told = sym o.rank;
       mai_below_n = mai_lt (ones m) hsn maio fn (omega arith);
       in_allocation = line_within m hsn maio fn h size (within size m hsn maio fn w.1.1);
     })
 
 -- ---- two lines
 
-module _ (ca : List ℕ) (v : Physical) (fn a : ℕ) (e : hop_of ca v.mask v.hsn v.maio fn ≡ accepted a) where
-  shown : (line_arfcn ca v.mask v.hsn v.maio fn ≡ a) × NoCause (hop_causes ca v.mask v.hsn v.maio fn)
+module _ (ca : List ℕ) (v : Physical) (fn : ℕ) (s : Tuning) (e : hop_of ca v.mask v.hsn v.maio fn ≡ accepted s) where
+  shown : (line_tuning ca v.mask v.hsn v.maio fn ≡ s) × NoCause (hop_causes ca v.mask v.hsn v.maio fn)
   unfolding hop_of
-  shown = accepted_has_none (line_arfcn ca v.mask v.hsn v.maio fn) (hop_causes ca v.mask v.hsn v.maio fn) a e
+  shown = accepted_has_none (line_tuning ca v.mask v.hsn v.maio fn) (hop_causes ca v.mask v.hsn v.maio fn) s e
+
+  arfcn_is : line_arfcn ca v.mask v.hsn v.maio fn ≡ s.arfcn
+  arfcn_is = ap (λ (t : Tuning). t.arfcn) shown.0
+
+  entry_is : get_or ca s.position 0 ≡ s.arfcn
+  entry_is = subst (λ (t : Tuning). get_or ca t.position 0 ≡ t.arfcn) shown.0 refl
 
   fit : Fit ca v
   fit = record { within = within (length ca) v.mask v.hsn v.maio fn shown.1.1; maio_below = maio_below (length ca) v.mask v.hsn v.maio fn shown.1.1 }
@@ -69,23 +78,26 @@ module _ (ca : List ℕ) (v : Physical) (fn a : ℕ) (e : hop_of ca v.mask v.hsn
 
 pub lines_apart : Apart
 unfolding Apart
-lines_apart ca v w t c fn a b ev ew q =
-    apart ca v w (allocated ca v fn a ev) (fit ca v fn a ev) (fit ca w fn b ew) t c fn
-    ((shown ca v fn a ev).0 ∙ (q ∙ sym (shown ca w fn b ew).0))
+lines_apart ca v w same c fn s t ev ew = (differ, λ q. differ (sym (entry_is ca v fn s ev) ∙ (ap (λ (p : ℕ). get_or ca p 0) q ∙ entry_is ca w fn t ew)))
+  where
+    differ : s.arfcn ≡ t.arfcn → ⊥
+    differ q =
+        apart ca v w (allocated ca v fn s ev) (fit ca v fn s ev) (fit ca w fn t ew) same c fn
+        (arfcn_is ca v fn s ev ∙ (q ∙ sym (arfcn_is ca w fn t ew)))
 
 -- ---- hop by position
 
-entry_answered : (ca : List ℕ) (o : Outcome ℕ) → answered (λ (p : ℕ). get_or ca p 0) o ≡ entry_at ca o
-entry_answered ca (refused r) = refl
-entry_answered ca (accepted p) = refl
+tuned_answered : (ca : List ℕ) (o : Outcome Selection) → answered (tuned ca) o ≡ tuned_by ca o
+tuned_answered ca (refused r) = refl
+tuned_answered ca (accepted s) = refl
 
 pub by_position : ByPosition
 unfolding ByPosition hop_of position_of
 by_position ca m hsn maio fn h =
-    passes _ (hopping_causes (length ca) m hsn maio fn) (line_arfcn ca m hsn maio fn) (ap not h, tt)
-    ∙ (sym (passes _ (hopping_causes (length ca) m hsn maio fn) (line_arfcn ca m hsn maio fn) (sized ca h, tt))
-    ∙ (decide_answered (λ (p : ℕ). get_or ca p 0) (position_causes (length ca) m hsn maio fn) (line_position m hsn maio fn)
-    ∙ entry_answered ca (position_of (length ca) m hsn maio fn)))
+    passes _ (hopping_causes (length ca) m hsn maio fn) (line_tuning ca m hsn maio fn) (ap not h, tt)
+    ∙ (sym (passes _ (hopping_causes (length ca) m hsn maio fn) (line_tuning ca m hsn maio fn) (sized ca h, tt))
+    ∙ (decide_answered (tuned ca) (position_causes (length ca) m hsn maio fn) (line_selection m hsn maio fn)
+    ∙ tuned_answered ca (position_of (length ca) m hsn maio fn)))
 
 -- ---- NBIN and RNTABLE
 

@@ -5,3 +5,4 @@ pub mod Drill
 pub mod Mai
 pub mod Borders
 pub mod Claims
+pub mod Placed

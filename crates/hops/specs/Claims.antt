@@ -4,41 +4,44 @@ use Rattle.answers.specs.Outcome.{Outcome, refused, accepted}
 use Rattle.answers.specs.Claims.{FairAnswer}
 use Rattle.hops.specs.Masks.{bit, ones, ones_below, one_at_or_above, share_one}
 use Rattle.hops.specs.Allocation.{is_allocation}
-use Rattle.hops.specs.Hopping.{rntable, nbin, mai_of, line_position, line_arfcn, position_causes, position_of, hop_causes, hop_of}
+use Rattle.hops.specs.Hopping.{rntable, nbin, mai_of, line_selection, line_tuning, position_causes, position_of, hop_causes, hop_of}
 use Rattle.hops.specs.Clash.{Physical, clash}
+use Rattle.hops.specs.declared.Selection.{Selection}
+use Rattle.hops.specs.declared.Tuning.{Tuning}
 
 -- "The lowest number that applies is given, and only if its condition holds."
 pub record FairCalls : Type 0 where
-  pub of_position : (size m hsn maio fn : ℕ) → FairAnswer (line_position m hsn maio fn) (position_causes size m hsn maio fn) (position_of size m hsn maio fn)
-  pub of_hop : (ca : List ℕ) (m hsn maio fn : ℕ) → FairAnswer (line_arfcn ca m hsn maio fn) (hop_causes ca m hsn maio fn) (hop_of ca m hsn maio fn)
+  pub of_position : (size m hsn maio fn : ℕ) → FairAnswer (line_selection m hsn maio fn) (position_causes size m hsn maio fn) (position_of size m hsn maio fn)
+  pub of_hop : (ca : List ℕ) (m hsn maio fn : ℕ) → FairAnswer (line_tuning ca m hsn maio fn) (hop_causes ca m hsn maio fn) (hop_of ca m hsn maio fn)
 
 -- what hop answers for a line of a cell with this CA
-abbrev pub arfcn_of : List ℕ → Physical → ℕ → Outcome ℕ
-arfcn_of ca v fn = hop_of ca v.mask v.hsn v.maio fn
+abbrev pub tuning_of : List ℕ → Physical → ℕ → Outcome Tuning
+tuning_of ca v fn = hop_of ca v.mask v.hsn v.maio fn
 
--- two lines of one timeslot that don't clash never have the same ARFCN
+-- two lines of one timeslot that don't clash never have the same ARFCN, nor the same position
 unfoldable pub Apart : Type 0
 Apart = (ca : List ℕ) (v w : Physical) → v.tn ≡ w.tn → clash v w ≡ false
-    → (fn a b : ℕ) → arfcn_of ca v fn ≡ accepted a → arfcn_of ca w fn ≡ accepted b → a ≢ b
+    → (fn : ℕ) (s t : Tuning) → tuning_of ca v fn ≡ accepted s → tuning_of ca w fn ≡ accepted t → (s.arfcn ≢ t.arfcn) × (s.position ≢ t.position)
 
 -- "the mask's one bit that has MAI ones below it": the position that is answered is that bit, and CA has an entry there
-pub record AtOne (size m hsn maio fn p : ℕ) : Type 0 where
-  pub is_one : bit m p ≡ 1
-  pub mai_ones_below : ones_below m p ≡ mai_of (ones m) hsn maio fn
-  pub mai_below_n : mai_of (ones m) hsn maio fn < ones m
-  pub in_allocation : p < size
+pub record AtOne (size m hsn maio fn : ℕ) (s : Selection) : Type 0 where
+  pub is_one : bit m s.position ≡ 1
+  pub mai_ones_below : ones_below m s.position ≡ mai_of (ones m) hsn maio fn
+  pub mai_told : s.mai ≡ ones_below m s.position
+  pub mai_below_n : s.mai < ones m
+  pub in_allocation : s.position < size
 
 unfoldable pub Position : Type 0
-Position = (size m hsn maio fn p : ℕ) → position_of size m hsn maio fn ≡ accepted p → AtOne size m hsn maio fn p
+Position = (size m hsn maio fn : ℕ) (s : Selection) → position_of size m hsn maio fn ≡ accepted s → AtOne size m hsn maio fn s
 
--- the entry of CA at the position that is answered
-abbrev pub entry_at : List ℕ → Outcome ℕ → Outcome ℕ
-entry_at ca (refused r) = refused r
-entry_at ca (accepted p) = accepted (get_or ca p 0)
+-- with the entry of CA at the position that is answered
+abbrev pub tuned_by : List ℕ → Outcome Selection → Outcome Tuning
+tuned_by ca (refused r) = refused r
+tuned_by ca (accepted s) = accepted (record { arfcn = get_or ca s.position 0; mai = s.mai; position = s.position })
 
 -- "The ARFCN is the CA entry at" that position: hop is the check of CA, position, and the entry there
 unfoldable pub ByPosition : Type 0
-ByPosition = (ca : List ℕ) (m hsn maio fn : ℕ) → is_allocation ca ≡ true → hop_of ca m hsn maio fn ≡ entry_at ca (position_of (length ca) m hsn maio fn)
+ByPosition = (ca : List ℕ) (m hsn maio fn : ℕ) → is_allocation ca ≡ true → hop_of ca m hsn maio fn ≡ tuned_by ca (position_of (length ca) m hsn maio fn)
 
 -- "NBIN is the number of bits needed to write N": so many have room for N, and fewer have not
 unfoldable pub Nbin : Type 0

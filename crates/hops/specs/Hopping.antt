@@ -1,4 +1,4 @@
--- Document 01, "Hopping (6.2)". Assumes nothing.
+-- Document 01, "Hopping (6.2)"; document 02, No. 2. Assumes nothing.
 use Rattle.std.specs.Prelude.{ℕ, ◌+◌, ◌%◌, ◌^◌, not, cond, List, [], ◌∷◌, ltb, eqb, length, get_or}
 use Rattle.std.specs.Int.Bits.{bit_xor}
 use Rattle.answers.specs.Outcome.{Outcome, Cause, cause, decide}
@@ -8,6 +8,8 @@ use Rattle.clock.specs.declared.Frame.{Frame}
 use Rattle.clock.specs.Clock.{parts_of}
 use Rattle.hops.specs.Masks.{ones, position_at, one_at_or_above}
 use Rattle.hops.specs.Allocation.{allocation_cause}
+use Rattle.hops.specs.declared.Selection.{Selection}
+use Rattle.hops.specs.declared.Tuning.{Tuning}
 
 -- "RNTABLE, entries 0 to 113"
 unfoldable pub rntable : List ℕ
@@ -53,6 +55,18 @@ line_position m hsn maio fn = position_at m (mai_of (ones m) hsn maio fn)
 abbrev pub line_arfcn : List ℕ → ℕ → ℕ → ℕ → ℕ → ℕ
 line_arfcn ca m hsn maio fn = get_or ca (line_position m hsn maio fn) 0
 
+-- MAI, and the CA position of the mask's one that MAI selects
+abbrev pub line_selection : ℕ → ℕ → ℕ → ℕ → Selection
+line_selection m hsn maio fn = record { mai = mai_of (ones m) hsn maio fn; position = line_position m hsn maio fn }
+
+-- "The hop answer must give MAI and the CA position beside the ARFCN": "The position is the one whose CA entry is the ARFCN"
+abbrev pub tuned : List ℕ → Selection → Tuning
+tuned ca s = record { arfcn = get_or ca s.position 0; mai = s.mai; position = s.position }
+
+-- what a line is tuned to in a frame
+abbrev pub line_tuning : List ℕ → ℕ → ℕ → ℕ → ℕ → Tuning
+line_tuning ca m hsn maio fn = tuned ca (line_selection m hsn maio fn)
+
 -- "4 mask zero, or a one at or above CA's length."
 abbrev pub mask_cause : ℕ → ℕ → Cause
 mask_cause size m = cause 4 (eqb m 0 ∷ one_at_or_above m size ∷ [])
@@ -65,16 +79,16 @@ maio_cause m maio = cause 5 (not (ltb maio (ones m)) ∷ [])
 abbrev pub hopping_causes : ℕ → ℕ → ℕ → ℕ → ℕ → List Cause
 hopping_causes size m hsn maio fn = cause 3 (no_hsn hsn ∷ no_fn fn ∷ []) ∷ mask_cause size m ∷ maio_cause m maio ∷ []
 
--- the position in a cell allocation of so many ARFCNs; "1 CA isn't as above", if none has so many
+-- MAI and the position in a cell allocation of so many ARFCNs; "1 CA isn't as above", if none has so many
 abbrev pub position_causes : ℕ → ℕ → ℕ → ℕ → ℕ → List Cause
 position_causes size m hsn maio fn = cause 1 (no_size size ∷ []) ∷ hopping_causes size m hsn maio fn
 
-unfoldable pub position_of : ℕ → ℕ → ℕ → ℕ → ℕ → Outcome ℕ
-position_of size m hsn maio fn = decide (position_causes size m hsn maio fn) (line_position m hsn maio fn)
+unfoldable pub position_of : ℕ → ℕ → ℕ → ℕ → ℕ → Outcome Selection
+position_of size m hsn maio fn = decide (position_causes size m hsn maio fn) (line_selection m hsn maio fn)
 
--- the ARFCN
+-- the ARFCN, MAI and the position
 abbrev pub hop_causes : List ℕ → ℕ → ℕ → ℕ → ℕ → List Cause
 hop_causes ca m hsn maio fn = allocation_cause ca ∷ hopping_causes (length ca) m hsn maio fn
 
-unfoldable pub hop_of : List ℕ → ℕ → ℕ → ℕ → ℕ → Outcome ℕ
-hop_of ca m hsn maio fn = decide (hop_causes ca m hsn maio fn) (line_arfcn ca m hsn maio fn)
+unfoldable pub hop_of : List ℕ → ℕ → ℕ → ℕ → ℕ → Outcome Tuning
+hop_of ca m hsn maio fn = decide (hop_causes ca m hsn maio fn) (line_tuning ca m hsn maio fn)

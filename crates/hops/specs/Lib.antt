@@ -2,5 +2,6 @@ pub mod Masks
 pub mod Allocation
 pub mod Hopping
 pub mod Clash
+pub mod Placed
 pub mod Borders
 pub mod Claims

@@ -1,5 +1,5 @@
 // The frame maps: which channel, subchannel, block and place a timeslot carries in each frame. Definitions in specs/, theorems in proofs/; no
-// code but the types of what a frame carries and of what a line sends, a kind's number, and which channels are of a common part.
+// code but the types of what a frame carries, a kind's number, and which channels are of a common part.
 #![tactic(auto)]
 
 ghost use Rattle.std.specs.Prelude.{◌≡◌};
@@ -89,19 +89,4 @@ pub struct Burst {
 pub enum Content {
     Idle,
     Channel(Burst),
-}
-
-// What a line sends in a frame. The owner is 0 for idle, for a common part and for a free subchannel: document 01 has 0 for free.
-#[derive(Clone, Copy, Debug, PartialEq, Eq)]
-pub struct OnAir {
-    pub arfcn: u32,
-    pub content: Content,
-    pub owner: u32,
-}
-
-// A line by its number, and what it sends.
-#[derive(Clone, Copy, Debug, PartialEq, Eq)]
-pub struct Found {
-    pub line: u32,
-    pub on_air: OnAir,
 }

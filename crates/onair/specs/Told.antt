@@ -6,14 +6,14 @@ use Rattle.answers.specs.Outcome.{Outcome}
 use Rattle.answers.specs.Refusals.{outcome_by, option_by}
 use Rattle.answers.specs.declared.Refusal.{Refusal}
 use Rattle.maps.specs.Map.{carried}
-use Rattle.maps.specs.declared.OnAir.{OnAir}
-use Rattle.maps.specs.declared.Found.{Found}
+use Rattle.slots.specs.declared.OnAir.{OnAir}
+use Rattle.slots.specs.declared.Found.{Found}
 use Rattle.rules.specs.OnAir.{Slot}
 use Rattle.rules.specs.Who.{Match}
 
 -- what the code's answer says
 abbrev pub slot_in : OnAir → Slot
-slot_in a = record { arfcn = a.arfcn; standing = carried a.content; owner = a.owner }
+slot_in a = record { tuning = a.tuning; standing = carried a.content; owner = a.owner }
 
 -- the line that is named, and what it sends
 abbrev pub match_in : Found → Match

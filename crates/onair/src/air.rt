@@ -1,23 +1,29 @@
 // What a line sends in a frame.
 ghost use Rattle.std.specs.Prelude.{◌≡◌};
 ghost use Rattle.maps.specs.Map.{map_of, carried};
-ghost use Rattle.rules.specs.OnAir.{arfcn_in, in_frame, owner_of, slot_of};
+ghost use Rattle.rules.specs.OnAir.{tuning_in, in_frame, owner_of, slot_of};
 ghost use Rattle.onair.specs.Told.{slot_in};
 ghost use Rattle.rules.specs.State.{line_at, owner_at};
 ghost use Rattle.storage.specs.Words.{cell_of};
 
-use maps::{Content, OnAir};
+use hops::{Selection, Tuning};
+use maps::Content;
+use slots::OnAir;
 use storage::{WORDS, entry, length, owner_at, values_at};
 
-// The CA entry at the position of line n, 0 where that is refused, as the definition has it.
-pub(crate) fn arfcn(cell: &[u32; WORDS], n: usize, number: u32) -> u32
-    ensures { result ≡ arfcn_in (cell_of cell.now) (line_at (cell_of cell.now) n) number }
+// What line n is tuned to, each number 0 where that is refused, as the definition has it.
+pub(crate) fn tuning(cell: &[u32; WORDS], n: usize, number: u32) -> Tuning
+    ensures { result ≡ tuning_in (cell_of cell.now) (line_at (cell_of cell.now) n) number }
 {
     let line = values_at(cell, n);
-    hopping::position(length(cell), line.mask, line.hsn, line.maio, number).map_or(
-        0,
-        |position| entry(cell, position),
-    )
+    match hopping::position(length(cell), line.mask, line.hsn, line.maio, number) {
+        Ok(Selection { mai, position }) => Tuning {
+            arfcn: entry(cell, position),
+            mai,
+            position,
+        },
+        Err(_) => Tuning::default(),
+    }
 }
 
 // What the map has in the frame.
@@ -38,7 +44,8 @@ fn owner(cell: &[u32; WORDS], n: usize, content: Content) -> u32
     }
 }
 
-// What line n of the cell sends.
+// What line n of the cell sends. Compiled into its two callers, which take it apart at once.
+#[inline(always)]
 #[tactic(auto, unfolding(rules::specs::OnAir::slot_of))]
 pub(crate) fn on_air(cell: &[u32; WORDS], n: usize, number: u32, direction: u32) -> OnAir
     ensures { slot_in result ≡ slot_of (cell_of cell.now) (line_at (cell_of cell.now) n) number direction }
@@ -46,7 +53,7 @@ pub(crate) fn on_air(cell: &[u32; WORDS], n: usize, number: u32, direction: u32)
     let line = values_at(cell, n);
     let content = content(line.combination, line.tn, number, direction);
     OnAir {
-        arfcn: arfcn(cell, n, number),
+        tuning: tuning(cell, n, number),
         content,
         owner: owner(cell, n, content),
     }

@@ -14,8 +14,8 @@ ghost use Rattle.onair.specs.Told.{slot_in, sought};
 use air::on_air;
 use answers::Refusal;
 use clock::Frame;
-use maps::{Found, OnAir};
 use seek::first_on;
+use slots::{Found, OnAir};
 use storage::{WORDS, values_at};
 
 // What line `line` sends in frame `number`, downlink (0) or uplink (1).

@@ -7,13 +7,15 @@ mod tests;
 ghost use Rattle.std.specs.Prelude.{ℕ, None, List, [], ◌∷◌, ◌++◌, ◌≡◌, map};
 ghost use Rattle.wording.specs.Words.{ascii};
 ghost use Rattle.wording.specs.Print.{written, spaced, bit_character};
-ghost use Rattle.wording.specs.Replies.{refused_text, answered, parts_text, paging_text, channel_text, place_text, blocks_text, owner_text, content_text, slot_text, found_text, reason_text, error_text};
+ghost use Rattle.wording.specs.Replies.{refused_text, answered, tuning_text, parts_text, paging_text, channel_text, place_text, blocks_text, owner_text, content_text, slot_text, found_text, reason_text, error_text};
 
 use answers::Refusal;
 use arrayvec::ArrayVec;
 use clock::Frame;
 use groups::PagingBlock;
-use maps::{Blocks, Content, Found, Kind, OnAir, Place};
+use hops::Tuning;
+use maps::{Blocks, Content, Kind, Place};
+use slots::{Found, OnAir};
 use text::print::{put, put_bits, put_number, put_numbers};
 use wording::Reason;
 
@@ -32,12 +34,20 @@ impl<const N: usize> Reply<N> for () {
     fn print(self, out: &mut ArrayVec<u8, N>) {}
 }
 
-// A frame number or an ARFCN.
+// A frame number.
 impl<const N: usize> Reply<N> for u32 {
     ghost text = { λ n. spaced (n ∷ []) };
 
     fn print(self, out: &mut ArrayVec<u8, N>) {
         put_numbers(out, &[self]);
+    }
+}
+
+impl<const N: usize> Reply<N> for Tuning {
+    ghost text = { tuning_text };
+
+    fn print(self, out: &mut ArrayVec<u8, N>) {
+        put_numbers(out, &[self.arfcn, self.mai, self.position]);
     }
 }
 
@@ -73,7 +83,7 @@ impl<const N: usize> Reply<N> for OnAir {
     ghost text = { slot_text };
 
     fn print(self, out: &mut ArrayVec<u8, N>) {
-        put_numbers(out, &[self.arfcn]);
+        self.tuning.print(out);
         content(out, self.content, Some(self.owner));
     }
 }

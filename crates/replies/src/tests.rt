@@ -1,14 +1,16 @@
 // `answer` at the type that each call gives writes the sentence of that call.
 ghost use Rattle.std.specs.Prelude.{◌≡◌};
 ghost use Rattle.wording.specs.Print.{written};
-ghost use Rattle.wording.specs.Replies.{done_text, number_text, page_text, split_text, map_text, line_text, who_text, bits_text};
+ghost use Rattle.wording.specs.Replies.{done_text, number_text, hop_text, page_text, split_text, map_text, line_text, who_text, bits_text};
 
 use crate::{Bits, answer, refused};
 use answers::Refusal;
 use arrayvec::ArrayVec;
 use clock::Frame;
 use groups::PagingBlock;
-use maps::{Blocks, Burst, Content, Found, Kind, OnAir, Place};
+use hops::Tuning;
+use maps::{Blocks, Burst, Content, Kind, Place};
+use slots::{Found, OnAir};
 
 fn done(out: &mut ArrayVec<u8, 64>, reply: Result<(), Refusal>)
     ensures { out.new.items ≡ written 64 out.old.items (done_text reply) }
@@ -18,6 +20,12 @@ fn done(out: &mut ArrayVec<u8, 64>, reply: Result<(), Refusal>)
 
 fn number(out: &mut ArrayVec<u8, 64>, reply: Result<u32, Refusal>)
     ensures { out.new.items ≡ written 64 out.old.items (number_text reply) }
+{
+    answer(out, reply);
+}
+
+fn hop(out: &mut ArrayVec<u8, 64>, reply: Result<Tuning, Refusal>)
+    ensures { out.new.items ≡ written 64 out.old.items (hop_text reply) }
 {
     answer(out, reply);
 }
@@ -67,6 +75,7 @@ fn numbers(rt: HostRuntime) {
     done(&mut out, Ok(()));
     done(&mut out, Err(Refusal::Clash { line: 0 }));
     number(&mut out, Ok(20));
+    hop(&mut out, Ok(found().on_air.tuning));
     page(
         &mut out,
         Ok(PagingBlock {
@@ -78,7 +87,7 @@ fn numbers(rt: HostRuntime) {
     bits(&mut out, Ok(()), &[0, 1, 1]);
     assert_eq!(rt;
         out.as_slice(),
-        b"ok\nrefused 9 0\nok 20\nok 0 4 26\nok 011\n".as_slice()
+        b"ok\nrefused 9 0\nok 20\nok 50 3 4\nok 0 4 26\nok 011\n".as_slice()
     );
 }
 
@@ -94,7 +103,7 @@ fn frames(rt: HostRuntime) {
     );
 }
 
-// Line 2 on its ARFCN, a TCH burst of two blocks.
+// Line 2 on the ARFCN at position 4, a TCH burst of two blocks.
 fn found() -> Found {
     let first = Place { block: 2, place: 1 };
     let second = Place { block: 1, place: 5 };
@@ -104,7 +113,11 @@ fn found() -> Found {
         blocks: Blocks::Two(first, second),
     };
     let on_air = OnAir {
-        arfcn: 30,
+        tuning: Tuning {
+            arfcn: 50,
+            mai: 3,
+            position: 4,
+        },
         content: Content::Channel(burst),
         owner: 4714,
     };
@@ -118,7 +131,7 @@ fn channels(rt: HostRuntime) {
     line(&mut out, Ok(found().on_air));
     assert_eq!(rt;
         out.as_slice(),
-        b"ok TCH 0 2 1 1 5\nok 30 TCH 0 4714 2 1 1 5\n".as_slice()
+        b"ok TCH 0 2 1 1 5\nok 50 3 4 TCH 0 4714 2 1 1 5\n".as_slice()
     );
 }
 
@@ -130,6 +143,6 @@ fn lines(rt: HostRuntime) {
     who(&mut out, Ok(None));
     assert_eq!(rt;
         out.as_slice(),
-        b"ok idle\nok 2 30 TCH 0 4714 2 1 1 5\nok nobody\n".as_slice()
+        b"ok idle\nok 2 50 3 4 TCH 0 4714 2 1 1 5\nok nobody\n".as_slice()
     );
 }

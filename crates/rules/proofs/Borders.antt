@@ -41,7 +41,7 @@ owner_borders = record { seize_ranges = refl; release_ranges = refl; full_rate =
 
 line_borders : LineBorders
 unfolding line_of slot_of owner_of position_of map_of standing numbered each from rows_among full_rate half_rate uncombined combined additional sdcch8 rntable nbin S mai_of run decide any_of all_below any_below least ones_below position_at one_at_or_above share_one is_allocation clash combinations among tabulate closed_line empty start_of open_of seize_of
-line_borders = record { last_frame = (refl, refl); directions = (refl, refl); number = refl; closed = refl; held = refl; free = refl; common = refl; idle = refl }
+line_borders = record { last_frame = (refl, refl); directions = (refl, refl); number = refl; closed = refl; held = refl; free = refl; common = refl; idle = refl; nowhere = refl }
 
 who_borders : WhoBorders
 unfolding who_of match_of slot_of owner_of position_of map_of standing numbered each from rows_among full_rate half_rate uncombined combined additional sdcch8 rntable nbin S mai_of run decide any_of all_below any_below least ones_below position_at one_at_or_above share_one is_allocation clash combinations among tabulate closed_line empty start_of open_of seize_of

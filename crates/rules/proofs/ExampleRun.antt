@@ -18,4 +18,4 @@ use Rattle.rules.specs.ExampleRun.{refusals, ExampleRun}
 
 pub example_run : ExampleRun
 unfolding refusals opened_with held_by since last_accepted line_of slot_of owner_of position_of map_of standing numbered each from rows_among full_rate half_rate uncombined combined additional sdcch8 rntable nbin S mai_of run decide any_of all_below any_below least ones_below position_at one_at_or_above share_one is_allocation clash combinations among tabulate closed_line empty start_of open_of close_of seize_of release_of
-example_run = record { answers = refl; opened = (refl, refl); held = (refl, refl); sent = (refl, refl, refl); combined_line = (refl, refl) }
+example_run = record { answers = refl; opened = (refl, refl); held = (refl, refl); slots = (refl, refl, refl); combined_line = (refl, refl) }

@@ -17,6 +17,7 @@ pub mod DrillSheet
 pub mod Causes
 pub mod Known
 pub mod WhoAndLine
+pub mod Routed
 pub mod CommonLines
 pub mod PageAndLine
 pub mod Borders

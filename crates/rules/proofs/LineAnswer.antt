@@ -1,4 +1,4 @@
--- What `line` answers of an open line: the ARFCN that the hopping rules give, and what the rows of the map have in the frame. Assumes nothing.
+-- What `line` answers of an open line: the ARFCN that the hopping rules give, with MAI and the position, and what the rows of the map have in the frame. Assumes nothing.
 use Prim.Native.Nat.{ℕ, ◌<◌}
 use mathlib.Core.Path.{◌≡◌, refl, sym, ap, ◌∙◌, subst}
 use mathlib.Core.Bool.{Bool, true, false, not, cond}
@@ -10,7 +10,8 @@ use borrow.Author.Tests.{le-ltb, lt-leb}
 use Rattle.answers.specs.Outcome.{accepted, any_of}
 use Rattle.answers.specs.Ranges.{hyperframe, line_count}
 use Rattle.answers.proofs.Decide.{passes, accepts, none_holds}
-use Rattle.hops.specs.Hopping.{position_of, line_position, line_arfcn}
+use Rattle.hops.specs.Hopping.{position_of, line_position, line_selection, line_tuning}
+use Rattle.hops.specs.declared.Tuning.{Tuning}
 use Rattle.hops.proofs.Apart.{line_within}
 use Rattle.maps.specs.Channels.{Standing, is_common}
 use Rattle.maps.specs.Combinations.{rows_of}
@@ -19,7 +20,7 @@ use Rattle.maps.specs.Rows.{standing}
 use Rattle.maps.proofs.Range.{accepted_map}
 use Rattle.maps.proofs.Stood.{Stood, standing_stood}
 use Rattle.rules.specs.State.{Cell, LineState, Values, owner_room, line_with, is_open, line_at, owner_at, allocation}
-use Rattle.rules.specs.OnAir.{entry_at, in_frame, owner_of, slot_of, line_of}
+use Rattle.rules.specs.OnAir.{tuning_at, in_frame, owner_of, slot_of, line_of}
 use Rattle.rules.specs.History.{Made, opened_with, held_by, cell_from}
 use Rattle.rules.specs.CollisionFree.{slot_from}
 use Rattle.rules.proofs.Begun.{Begun, begun_size}
@@ -29,17 +30,20 @@ use Rattle.rules.proofs.Lines.{has_room, same_slot}
 use Rattle.rules.proofs.Sound.{Allowed, allowed_within, allowed_maio, allowed_line, allowed_combination, allowed_tn, allowed_hsn, allowed_open, Sound, open_line}
 
 module _ (first : Cell) (begun : Begun first) (n : ℕ) (v : Values) (a : Allowed first n v) (fn : ℕ) (hf : fn < hyperframe) where
-  position : position_of first.size v.mask v.hsn v.maio fn ≡ accepted (line_position v.mask v.hsn v.maio fn)
+  position : position_of first.size v.mask v.hsn v.maio fn ≡ accepted (line_selection v.mask v.hsn v.maio fn)
   unfolding position_of
   position =
       passes _ _ _ (begun_size first begun, tt)
       ∙ (passes _ _ _ (le-ltb 63 v.hsn (let h = allowed_hsn first n v a in omega (arith, h)), (lt-leb hyperframe fn hf, tt)) ∙ (passes _ _ _ a.mask ∙ (passes _ _ _ a.maio ∙ accepts _)))
 
-  -- the ARFCN is the one that the hopping rules give
-  pub arfcn_is : entry_at first.ca (position_of first.size v.mask v.hsn v.maio fn) ≡ line_arfcn (allocation first) v.mask v.hsn v.maio fn
-  arfcn_is =
-      ap (entry_at first.ca) position
-      ∙ sym (get_or-take first.size first.ca (line_position v.mask v.hsn v.maio fn) 0 (line_within v.mask v.hsn v.maio fn (allowed_maio first n v a) first.size (allowed_within first n v a)))
+  -- the line is tuned to what the hopping rules give
+  pub tuning_is : tuning_at first.ca (position_of first.size v.mask v.hsn v.maio fn) ≡ line_tuning (allocation first) v.mask v.hsn v.maio fn
+  tuning_is =
+      ap (tuning_at first.ca) position
+      ∙ ap with_arfcn (sym (get_or-take first.size first.ca (line_position v.mask v.hsn v.maio fn) 0 (line_within v.mask v.hsn v.maio fn (allowed_maio first n v a) first.size (allowed_within first n v a))))
+    where
+      with_arfcn : ℕ → Tuning
+      with_arfcn a = record { arfcn = a; mai = (line_selection v.mask v.hsn v.maio fn).mai; position = line_position v.mask v.hsn v.maio fn }
 
   module _ (d : ℕ) (hd : d < 2) where
     there : List Standing
@@ -75,7 +79,7 @@ module _ (first : Cell) (begun : Begun first) (past : List Made) (sound : Sound 
   unfolding slot_of cell_from there
   slot_is =
       let a = sound.allowed n v e in
-      same_slot (arfcn_is first begun n v a fn hf) (map_is first begun n v a fn hf d hd)
+      same_slot (tuning_is first begun n v a fn hf) (map_is first begun n v a fn hf d hd)
       (ap (owner_of (owner_at (line_with v (held_by past n)))) (map_is first begun n v a fn hf d hd) ∙ owner_is first begun n v a fn hf d hd (held_by past n))
 
   -- `line` of an open line

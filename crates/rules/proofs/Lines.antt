@@ -5,6 +5,7 @@ use mathlib.Core.Bool.{Bool, true, false, not, ◌&&◌, cond}
 use mathlib.Core.List.{List}
 use lib.Dec.{eqb, lit≤}
 use borrow.Author.Tests.{eq-eqb, ne_eqb}
+use Rattle.hops.specs.declared.Tuning.{Tuning}
 use Rattle.maps.specs.Channels.{Standing}
 use Rattle.rules.specs.Calls.{subchannels}
 use Rattle.rules.specs.OnAir.{Slot}
@@ -28,8 +29,8 @@ has_room k = go (eqb k 1) (eqb k 2) (eqb k 5) (eqb k 7)
     go false false false false = lit≤ {m = 0} {n = 8} tt
 
 -- a slot by its parts
-pub same_slot : {a b o p : ℕ} {xs ys : List Standing} → a ≡ b → xs ≡ ys → o ≡ p
-    → ◌≡◌ {A = Slot} (record { arfcn = a; standing = xs; owner = o }) (record { arfcn = b; standing = ys; owner = p })
+pub same_slot : {a b : Tuning} {xs ys : List Standing} {o p : ℕ} → a ≡ b → xs ≡ ys → o ≡ p
+    → ◌≡◌ {A = Slot} (record { tuning = a; standing = xs; owner = o }) (record { tuning = b; standing = ys; owner = p })
 same_slot e f g = cc
 
 -- tests one after the other: the first fails, or the next decides

@@ -118,7 +118,7 @@ module _ (first : Cell) (begun : Begun first) (past : List Made) (sound : Sound 
         of_channel = subst (λ (b : Standing). is_of x b ≡ true) (sym r.tells) a.of_channel;
         in_frame = r.stands;
         in_timeslot = sym (tn_is v w.is_open) ∙ a.in_timeslot;
-        on_arfcn = ap (λ (s : Slot). s.arfcn) (sym same) ∙ a.on_arfcn;
+        on_arfcn = ap (λ (s : Slot). s.tuning.arfcn) (sym same) ∙ a.on_arfcn;
       }
     where
       w : Opened first past sound n

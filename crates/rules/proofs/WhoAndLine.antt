@@ -15,17 +15,18 @@ use Rattle.answers.specs.Claims.{NoCause}
 use Rattle.answers.proofs.Decide.{passes, accepts, accepted_has_none}
 use Rattle.answers.proofs.Search.{First, any_at, first_of, first_or_none, least_first, any_none}
 use Rattle.answers.proofs.Tests.{and_left, and_right, and_both}
-use Rattle.hops.specs.Hopping.{line_position, line_arfcn}
+use Rattle.hops.specs.Hopping.{line_position, line_arfcn, line_tuning}
+use Rattle.hops.specs.declared.Tuning.{Tuning}
 use Rattle.hops.proofs.Apart.{line_within, entry_arfcn}
 use Rattle.rules.specs.State.{Cell, LineState, Values, is_open, line_at, allocation}
-use Rattle.rules.specs.OnAir.{Slot, arfcn_in, slot_of, line_causes, line_of}
+use Rattle.rules.specs.OnAir.{Slot, tuning_in, slot_of, line_causes, line_of}
 use Rattle.rules.specs.Who.{line_is_on, Match, match_at, who_causes, match_of, who_of}
 use Rattle.rules.specs.History.{Made, opened_with, cell_from}
 use Rattle.rules.specs.Reached.{NoneShown, WhoAgrees, WhoAndLine}
 use Rattle.rules.proofs.History.{none_is_not_some}
 use Rattle.rules.proofs.Begun.{Begun}
 use Rattle.rules.proofs.Sound.{Sound, allowed_tn, allowed_within, allowed_maio, open_line, is_opened}
-use Rattle.rules.proofs.LineAnswer.{arfcn_is}
+use Rattle.rules.proofs.LineAnswer.{tuning_is}
 use Rattle.rules.proofs.CollisionFree.{lines_apart}
 use Rattle.rules.proofs.Known.{known}
 
@@ -70,7 +71,7 @@ module _ (c : Cell) (tn arfcn fn : ℕ) where
   on_tn : (m : ℕ) → line_is_on c tn arfcn fn m ≡ true → (line_at c m).tn ≡ tn
   on_tn m e = eqb-true _ _ (and_left (eqb (line_at c m).tn tn) _ (and_right (is_open (line_at c m)) _ e))
 
-  on_arfcn : (m : ℕ) → line_is_on c tn arfcn fn m ≡ true → arfcn_in c (line_at c m) fn ≡ arfcn
+  on_arfcn : (m : ℕ) → line_is_on c tn arfcn fn m ≡ true → (tuning_in c (line_at c m) fn).arfcn ≡ arfcn
   on_arfcn m e = eqb-true _ _ (and_right (eqb (line_at c m).tn tn) _ (and_right (is_open (line_at c m)) _ e))
 
   -- who's answer, by the first line that is on
@@ -87,7 +88,7 @@ module _ (c : Cell) (tn arfcn fn : ℕ) where
 
   -- what who names, line shows
   pub who_shown : (direction : ℕ) (f : Match) → who_of c tn arfcn fn direction ≡ accepted (some f)
-      → (line_of c f.line fn direction ≡ accepted f.slot) × ((line_at c f.line).tn ≡ tn) × (f.slot.arfcn ≡ arfcn)
+      → (line_of c f.line fn direction ≡ accepted f.slot) × ((line_at c f.line).tn ≡ tn) × (f.slot.tuning.arfcn ≡ arfcn)
   unfolding who_of slot_of
   who_shown direction f e = ⊎_elim somebody (λ g. absurd (none_is_not_some (sym (none_found direction g) ∙ given.0))) (first_or_none test line_count)
     where
@@ -95,7 +96,7 @@ module _ (c : Cell) (tn arfcn fn : ℕ) where
       given = accepted_has_none _ (who_causes tn arfcn fn direction) (some f) e
 
       Agrees : Match → Type 0
-      Agrees x = (line_of c x.line fn direction ≡ accepted x.slot) × ((line_at c x.line).tn ≡ tn) × (x.slot.arfcn ≡ arfcn)
+      Agrees x = (line_of c x.line fn direction ≡ accepted x.slot) × ((line_at c x.line).tn ≡ tn) × (x.slot.tuning.arfcn ≡ arfcn)
 
       somebody : First test line_count → Agrees f
       somebody w =
@@ -109,13 +110,14 @@ module _ (first : Cell) (begun : Begun first) (past : List Made) (sound : Sound 
   cell = cell_from first past
 
   -- what the history says of a line that is open
-  record OnLine (n fn : ℕ) : Type 0 where
+  pub record OnLine (n fn : ℕ) : Type 0 where
     pub values : Values
     pub is_open : opened_with past n ≡ some values
     pub in_timeslot : (line_at cell n).tn ≡ values.tn
-    pub on_arfcn : arfcn_in cell (line_at cell n) fn ≡ line_arfcn (allocation first) values.mask values.hsn values.maio fn
+    pub of_mask : (line_at cell n).mask ≡ values.mask
+    pub tuning : tuning_in cell (line_at cell n) fn ≡ line_tuning (allocation first) values.mask values.hsn values.maio fn
 
-  on_line : (n fn : ℕ) → n < line_count → fn < hyperframe → is_open (line_at cell n) ≡ true → OnLine n fn
+  pub on_line : (n fn : ℕ) → n < line_count → fn < hyperframe → is_open (line_at cell n) ≡ true → OnLine n fn
   unfolding cell_from
   on_line n fn h hf o =
       let w = is_opened first past sound n (lt-leb line_count n h) (ap not o) in
@@ -124,10 +126,15 @@ module _ (first : Cell) (begun : Begun first) (past : List Made) (sound : Sound 
         values = w.values;
         is_open = w.is_open;
         in_timeslot = ap (λ (x : LineState). x.tn) l;
-        on_arfcn = ap (λ (x : LineState). arfcn_in (cell_from first past) x fn) l ∙ arfcn_is first begun n w.values (sound.allowed n w.values w.is_open) fn hf;
+        of_mask = ap (λ (x : LineState). x.mask) l;
+        tuning = ap (λ (x : LineState). tuning_in (cell_from first past) x fn) l ∙ tuning_is first begun n w.values (sound.allowed n w.values w.is_open) fn hf;
       }
 
-  one_line : (tn arfcn fn m n : ℕ) → fn < hyperframe → m < line_count → n < line_count
+  -- and of the ARFCN that it has
+  arfcn_is : (n fn : ℕ) (w : OnLine n fn) → (tuning_in cell (line_at cell n) fn).arfcn ≡ line_arfcn (allocation first) w.values.mask w.values.hsn w.values.maio fn
+  arfcn_is n fn w = ap (λ (t : Tuning). t.arfcn) w.tuning
+
+  pub one_line : (tn arfcn fn m n : ℕ) → fn < hyperframe → m < line_count → n < line_count
       → line_is_on cell tn arfcn fn m ≡ true → line_is_on cell tn arfcn fn n ≡ true → m ≡ n
   one_line tn arfcn fn m n hf hm hn em en = go (eqb m n) refl
     where
@@ -142,33 +149,33 @@ module _ (first : Cell) (begun : Begun first) (past : List Made) (sound : Sound 
       go false e =
           absurd (lines_apart first begun past sound m n v.values w.values (eqb-false m n e) v.is_open w.is_open
           (sym v.in_timeslot ∙ (on_tn cell tn arfcn fn m em ∙ (sym (on_tn cell tn arfcn fn n en) ∙ w.in_timeslot))) fn
-          (sym v.on_arfcn ∙ (on_arfcn cell tn arfcn fn m em ∙ (sym (on_arfcn cell tn arfcn fn n en) ∙ w.on_arfcn))))
+          (sym (arfcn_is m fn v) ∙ (on_arfcn cell tn arfcn fn m em ∙ (sym (on_arfcn cell tn arfcn fn n en) ∙ arfcn_is n fn w))))
 
   -- an open line's timeslot and ARFCN are in range
   in_range : (n fn direction : ℕ) → n < line_count → fn < hyperframe → direction ≤ 1 → is_open (line_at cell n) ≡ true
-      → NoCause (who_causes (line_at cell n).tn (arfcn_in cell (line_at cell n) fn) fn direction)
+      → NoCause (who_causes (line_at cell n).tn (tuning_in cell (line_at cell n) fn).arfcn fn direction)
   in_range n fn direction h hf hd o =
       let w = on_line n fn h hf o in
       let a = sound.allowed n w.values w.is_open in
       let t = allowed_tn first n w.values a in
       let p = line_within w.values.mask w.values.hsn w.values.maio fn (allowed_maio first n w.values a) first.size (allowed_within first n w.values a) in
       let e = entry_arfcn (allocation first) begun.allocated (line_position w.values.mask w.values.hsn w.values.maio fn) (subst (λ (k : ℕ). line_position w.values.mask w.values.hsn w.values.maio fn < k) (sym begun.known_length) p) in
-      ((le-ltb 7 (line_at cell n).tn (let q = w.in_timeslot in omega (arith, t, q)), (le-ltb 1023 (arfcn_in cell (line_at cell n) fn) (let q = w.on_arfcn in omega (arith, e, q)), (lt-leb _ _ hf, (le-ltb 1 direction hd, tt)))), tt)
+      ((le-ltb 7 (line_at cell n).tn (let q = w.in_timeslot in omega (arith, t, q)), (le-ltb 1023 (tuning_in cell (line_at cell n) fn).arfcn (let q = arfcn_is n fn w in omega (arith, e, q)), (lt-leb _ _ hf, (le-ltb 1 direction hd, tt)))), tt)
 
   -- an open line is on in its own timeslot and on its own ARFCN
-  is_on : (n fn : ℕ) → is_open (line_at cell n) ≡ true → line_is_on cell (line_at cell n).tn (arfcn_in cell (line_at cell n) fn) fn n ≡ true
-  is_on n fn o = and_both o (and_both (eq-eqb (line_at cell n).tn (line_at cell n).tn refl) (eq-eqb (arfcn_in cell (line_at cell n) fn) (arfcn_in cell (line_at cell n) fn) refl))
+  pub is_on : (n fn : ℕ) → is_open (line_at cell n) ≡ true → line_is_on cell (line_at cell n).tn (tuning_in cell (line_at cell n) fn).arfcn fn n ≡ true
+  is_on n fn o = and_both o (and_both (eq-eqb (line_at cell n).tn (line_at cell n).tn refl) (eq-eqb (tuning_in cell (line_at cell n) fn).arfcn (tuning_in cell (line_at cell n) fn).arfcn refl))
 
   named : (n fn direction : ℕ) (s : Slot) → line_of cell n fn direction ≡ accepted s
-      → who_of cell (line_at cell n).tn s.arfcn fn direction ≡ accepted (some (record { line = n; slot = s }))
+      → who_of cell (line_at cell n).tn s.tuning.arfcn fn direction ≡ accepted (some (record { line = n; slot = s }))
   unfolding who_of slot_of
-  named n fn direction s e = subst (λ (x : Slot). who_of cell tn x.arfcn fn direction ≡ accepted (some (record { line = n; slot = x }))) l.slot named_so
+  named n fn direction s e = subst (λ (x : Slot). who_of cell tn x.tuning.arfcn fn direction ≡ accepted (some (record { line = n; slot = x }))) l.slot named_so
     where
       tn : ℕ
       tn = (line_at cell n).tn
 
       arfcn : ℕ
-      arfcn = arfcn_in cell (line_at cell n) fn
+      arfcn = (tuning_in cell (line_at cell n) fn).arfcn
 
       l : LineShown cell fn direction n s
       l = line_shown cell fn direction n s e

@@ -10,12 +10,12 @@ use Rattle.groups.specs.declared.PagingBlock.{PagingBlock}
 use Rattle.groups.specs.Paging.{Common}
 use Rattle.rules.specs.State.{Cell, LineState, line_at}
 use Rattle.rules.specs.Calls.{refused_cell, start_of, c0_alone}
-use Rattle.rules.specs.OnAir.{Slot, line_of}
+use Rattle.rules.specs.OnAir.{Slot, tuning_in, line_of}
 use Rattle.rules.specs.Paging.{common_of, page_of}
 use Rattle.rules.specs.Who.{who_of}
 use Rattle.rules.specs.History.{Call, opens, closes, seizes, releases}
 use Rattle.rules.specs.CollisionFree.{run, begin}
-use Rattle.rules.specs.ExampleRun.{refusals, values}
+use Rattle.rules.specs.ExampleRun.{refusals, values, sent}
 
 -- ---- the words of the tables
 
@@ -230,7 +230,7 @@ asked = after (opens 63 (values 7 7 0 2 1 0) ∷ seizes 63 0 9 ∷ places 0 5 0 
 
 -- line 63 in FN 2,715,647: (FN + MAIO) mod 3 is 1, and q is 103, where timeslot 7 has place 0 of its SACCH
 abbrev pub last_slot : Slot
-last_slot = record { arfcn = 20; standing = at Sacch 0 0 0 ∷ []; owner = 9 }
+last_slot = sent 20 1 1 (at Sacch 0 0 0 ∷ []) 9
 
 pub record LineBorders : Type 0 where
   -- "3 line number (0 to 63), .. FN, direction (0 D, 1 U) .. out of range"
@@ -240,11 +240,13 @@ pub record LineBorders : Type 0 where
   -- "7 .. line on a closed line"
   pub closed : line_of asked 62 0 0 ≡ refused (alone 7)
   -- the owner of the s that stands there; "owner 0 for a free s"
-  pub held : line_of asked 0 22 0 ≡ accepted (record { arfcn = 20; standing = at Sdcch 0 0 0 ∷ []; owner = 8 })
-  pub free : line_of asked 0 26 0 ≡ accepted (record { arfcn = 20; standing = at Sdcch 1 0 0 ∷ []; owner = 0 })
+  pub held : line_of asked 0 22 0 ≡ accepted (sent 20 0 1 (at Sdcch 0 0 0 ∷ []) 8)
+  pub free : line_of asked 0 26 0 ≡ accepted (sent 20 0 1 (at Sdcch 1 0 0 ∷ []) 0)
   -- "s and owner 0 for a common part", and idle
-  pub common : line_of asked 0 4 1 ≡ accepted (record { arfcn = 20; standing = at Rach 0 0 0 ∷ []; owner = 0 })
-  pub idle : line_of asked 0 2715647 0 ≡ accepted (record { arfcn = 20; standing = []; owner = 0 })
+  pub common : line_of asked 0 4 1 ≡ accepted (sent 20 0 1 (at Rach 0 0 0 ∷ []) 0)
+  pub idle : line_of asked 0 2715647 0 ≡ accepted (sent 20 0 1 [] 0)
+  -- a line that the hopping rules refuse, which no call opens, is tuned to nothing
+  pub nowhere : tuning_in asked (zero_line []) 0 ≡ record { arfcn = 0; mai = 0; position = 0 }
 
 pub record WhoBorders : Type 0 where
   -- "3 .. TN, .. FN, direction (0 D, 1 U) or ARFCN out of range"

@@ -144,7 +144,7 @@ HeldHasOwner =
 pub record WhoNames : Type 0 where
   -- what `who` names, `line` shows, in that timeslot and on that ARFCN
   pub shown : (c : Cell) (tn arfcn fn direction : ℕ) (f : Match) → who_of c tn arfcn fn direction ≡ accepted (some f)
-      → (line_of c f.line fn direction ≡ accepted f.slot) × ((line_at c f.line).tn ≡ tn) × (f.slot.arfcn ≡ arfcn)
+      → (line_of c f.line fn direction ≡ accepted f.slot) × ((line_at c f.line).tn ≡ tn) × (f.slot.tuning.arfcn ≡ arfcn)
 
 -- ---- the lines that paging counts
 

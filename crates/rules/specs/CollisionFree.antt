@@ -6,7 +6,7 @@ use mathlib.Core.List.{List, [], ◌∷◌, Memᴰ}
 use Rattle.std.proofs.Math.Option.{Option, none, some}
 use Rattle.answers.specs.Outcome.{Refused, accepted}
 use Rattle.answers.specs.Ranges.{hyperframe}
-use Rattle.hops.specs.Hopping.{line_arfcn}
+use Rattle.hops.specs.Hopping.{line_tuning}
 use Rattle.maps.specs.Channels.{Standing}
 use Rattle.maps.specs.Combinations.{rows_of}
 use Rattle.maps.specs.Rows.{standing}
@@ -18,10 +18,10 @@ use Rattle.rules.specs.Carried.{Channel, subchannel, common_part, line_number, i
 
 -- ---- the claim about a cell, the one before the first call, and the history between them
 
--- "that ARFCN and what the map has there", with the owner that the history names
+-- "that ARFCN and what the map has there", with MAI, the position and the owner that the history names
 abbrev pub slot_from : Cell → List Made → ℕ → Values → ℕ → ℕ → Slot
 slot_from first past n v fn direction =
-    record { arfcn = line_arfcn (allocation first) v.mask v.hsn v.maio fn; standing = there; owner = owner_of (held_by past n) there }
+    record { tuning = line_tuning (allocation first) v.mask v.hsn v.maio fn; standing = there; owner = owner_of (held_by past n) there }
   where
     there : List Standing
     there = standing (rows_of v.combination v.tn direction) fn
@@ -40,7 +40,7 @@ pub record Shown (cell : Cell) (x : Channel) (spot : Spot) : Type 0 where
   pub of_channel : is_of x burst ≡ true
   pub owned : is_owned x slot.owner ≡ true
   pub in_timeslot : (line_at cell (line_number x)).tn ≡ spot.tn
-  pub on_arfcn : slot.arfcn ≡ spot.arfcn
+  pub on_arfcn : slot.tuning.arfcn ≡ spot.arfcn
 
 pub record CollisionFree (first : Cell) (past : List Made) (cell : Cell) : Type 0 where
   -- what is open and held is exactly what the list says, and CA, C0, BCC, AG and P are as before the first call

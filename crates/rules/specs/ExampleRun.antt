@@ -3,10 +3,10 @@ use Rattle.std.specs.Prelude.{ℕ, ◌≡◌, List, [], ◌∷◌}
 use Rattle.std.proofs.Math.Option.{Option, none, some}
 use Rattle.answers.specs.Outcome.{Refused, accepted, alone}
 use Rattle.maps.specs.declared.Kind.TheVariants.{Tch, Sch}
-use Rattle.maps.specs.Channels.{at}
+use Rattle.maps.specs.Channels.{Standing, at}
 use Rattle.rules.specs.State.{Cell, Values}
 use Rattle.rules.specs.Calls.{start_of}
-use Rattle.rules.specs.OnAir.{line_of}
+use Rattle.rules.specs.OnAir.{Slot, line_of}
 use Rattle.rules.specs.History.{Call, opens, closes, seizes, releases, opened_with, held_by}
 use Rattle.rules.specs.CollisionFree.{calling, Run, run, begin}
 
@@ -17,6 +17,10 @@ refusals c (x ∷ xs) = (calling c x).refusal ∷ refusals (calling c x).cell xs
 
 abbrev pub values : ℕ → ℕ → ℕ → ℕ → ℕ → ℕ → Values
 values tn mask hsn maio combination tsc = record { tn = tn; mask = mask; hsn = hsn; maio = maio; combination = combination; tsc = tsc }
+
+-- what a line sends: the ARFCN, MAI and the position; what stands there, and its owner
+abbrev pub sent : ℕ → ℕ → ℕ → List Standing → ℕ → Slot
+sent arfcn mai ca_position standing owner = record { tuning = record { arfcn = arfcn; mai = mai; position = ca_position }; standing = standing; owner = owner }
 
 -- CA 10, 20, 30, 40; C0 10, BCC 3, AG 1, P 5
 abbrev pub example_cell : Cell
@@ -76,9 +80,9 @@ pub record ExampleRun : Type 0 where
   -- s 0 is free
   pub opened : (opened_with example_end.past 1 ≡ some (values 2 1 0 0 6 3)) × (opened_with example_end.past 4 ≡ none)
   pub held : (held_by example_end.past 3 1 ≡ 79) × (held_by example_end.past 3 0 ≡ 0)
-  -- in frame 1, downlink, lines 2 and 3, both in timeslot 1, send on 40 and on 30; line 0 sends SCH on C0
-  pub sent : (line_of example_end.cell 2 1 0 ≡ accepted (record { arfcn = 40; standing = at Tch 0 0 1 ∷ at Tch 0 5 5 ∷ []; owner = 81 }))
-      × (line_of example_end.cell 3 1 0 ≡ accepted (record { arfcn = 30; standing = at Tch 1 0 0 ∷ at Tch 1 5 2 ∷ []; owner = 79 }))
-      × (line_of example_end.cell 0 1 0 ≡ accepted (record { arfcn = 10; standing = at Sch 0 0 0 ∷ []; owner = 0 }))
+  -- in frame 1, downlink, lines 2 and 3, both in timeslot 1, send on 40 and on 30, by the third and the second one of mask 14; line 0 sends SCH on C0
+  pub slots : (line_of example_end.cell 2 1 0 ≡ accepted (sent 40 2 3 (at Tch 0 0 1 ∷ at Tch 0 5 5 ∷ []) 81))
+      × (line_of example_end.cell 3 1 0 ≡ accepted (sent 30 1 2 (at Tch 1 0 0 ∷ at Tch 1 5 2 ∷ []) 79))
+      × (line_of example_end.cell 0 1 0 ≡ accepted (sent 10 0 0 (at Sch 0 0 0 ∷ []) 0))
   -- "5 needs AG ≤ 2"
   pub combined_line : (combined_with 2 ≡ none) × (combined_with 3 ≡ some (alone 8))

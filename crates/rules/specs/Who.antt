@@ -5,11 +5,11 @@ use Rattle.answers.specs.Outcome.{Outcome, Cause, cause, decide}
 use Rattle.answers.specs.Ranges.{line_count, no_tn, no_arfcn, no_fn, no_direction}
 use Rattle.answers.specs.Search.{any_below, least}
 use Rattle.rules.specs.State.{Cell, LineState, is_open, line_at}
-use Rattle.rules.specs.OnAir.{Slot, arfcn_in, slot_of}
+use Rattle.rules.specs.OnAir.{Slot, tuning_in, slot_of}
 
 -- line l is an "open line of that TN" and "has that ARFCN in that frame"
 abbrev pub is_on : Cell → ℕ → ℕ → ℕ → LineState → Bool
-is_on c tn arfcn fn l = is_open l && (eqb l.tn tn && eqb (arfcn_in c l fn) arfcn)
+is_on c tn arfcn fn l = is_open l && (eqb l.tn tn && eqb (tuning_in c l fn).arfcn arfcn)
 
 -- so is line m
 abbrev pub line_is_on : Cell → ℕ → ℕ → ℕ → ℕ → Bool

@@ -14,7 +14,7 @@ Commands, one to a line, and the answer when accepted:
   split FN                    ok T1 T2 T3 T3'   (- where T3' isn't given)
   join T1 T2 T3               ok FN
   hop MASK HSN MAIO FN ARFCN..
-                              ok ARFCN
+                              ok ARFCN MAI POSITION
   map COMBINATION TN FN DIRECTION
                               ok idle
                               ok CHANNEL S BLOCK PLACE [BLOCK PLACE]
@@ -24,8 +24,9 @@ Commands, one to a line, and the answer when accepted:
   close LINE                  ok
   seize LINE S OWNER          ok
   release LINE S OWNER        ok
-  line LINE FN DIRECTION      ok ARFCN idle
-                              ok ARFCN CHANNEL S OWNER BLOCK PLACE [BLOCK PLACE]
+  line LINE FN DIRECTION      ok ARFCN MAI POSITION idle
+                              ok ARFCN MAI POSITION CHANNEL S OWNER
+                                BLOCK PLACE [BLOCK PLACE]
   who TN ARFCN FN DIRECTION   ok nobody
                               ok LINE, and then as line
   page IMSI FN                ok TN BLOCK FRAME
@@ -41,9 +42,11 @@ Commands, one to a line, and the answer when accepted:
                               a timetable: the open lines of a timeslot
 
 Numbers are decimal. ARFCN.. is a list, the cell allocation; bit p of MASK
-stands for its position p. DIRECTION is 0 for downlink, 1 for uplink. BITS are
-characters 0 and 1. COUNT is how many frames, at most 2715648. A line that is
-empty or starts with # is passed over.
+stands for its position p. MAI counts the mask's ones below the one that is
+used; POSITION is the place of the ARFCN in the cell allocation, from 0.
+DIRECTION is 0 for downlink, 1 for uplink. BITS are characters 0 and 1. COUNT
+is how many frames, at most 2715648. A line that is empty or starts with # is
+passed over.
 
 Other answers:
   refused N                   the lowest of these that applies:

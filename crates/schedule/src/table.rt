@@ -26,7 +26,8 @@ impl<'a> Timetable<'a> {
         let Ok(on_air) = onair::line(self.cell, line, self.first, self.direction) else {
             return false;
         };
-        let who = onair::who(self.cell, self.tn, on_air.arfcn, self.first, self.direction);
+        let arfcn = on_air.tuning.arfcn;
+        let who = onair::who(self.cell, self.tn, arfcn, self.first, self.direction);
         matches!(who, Ok(Some(found)) if found.line == line)
     }
 

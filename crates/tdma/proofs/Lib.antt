@@ -4,4 +4,5 @@ pub mod ThirdDemand
 pub mod ClockOfC
 pub mod BurstsOfC
 pub mod WhoOfC
+pub mod RoutedOfC
 pub mod PageOfC

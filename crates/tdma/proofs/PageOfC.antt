@@ -26,7 +26,7 @@ burst_numbers : (s : Slot) (b : PagingBlock) (l : TdmaLine) → s.standing ≡ a
     → (l.refusal ≡ 0) × (l.channel ≡ 7) × (l.blocks ≡ 1) × (l.block ≡ b.block) × (l.place ≡ 0)
 unfolding standing_numbers
 burst_numbers s b l e q =
-    let z = q ∙ ap (λ (xs : List Standing). line_fields s.arfcn s.owner (standing_numbers xs)) e in (
+    let z = q ∙ ap (λ (xs : List Standing). line_fields s.tuning s.owner (standing_numbers xs)) e in (
       ap (λ (x : TdmaLine). x.refusal) z,
       ap (λ (x : TdmaLine). x.channel) z,
       ap (λ (x : TdmaLine). x.blocks) z,

@@ -69,7 +69,7 @@ module _ (words : List ℕ) (agrees : WhoAgrees (cell_of words)) where
       → AnswersWho words (line_at (cell_of words) n).tn l.arfcn fn direction w → w ≡ record { refusal = 0; found = 1; line = n; answer = l }
   named n fn direction l w e h q =
       let a = line_answer (cell_of words) n fn direction l e h in
-      let arfcn : l.arfcn ≡ a.slot.arfcn = ap (λ (x : TdmaLine). x.arfcn) a.numbers in
+      let arfcn : l.arfcn ≡ a.slot.tuning.arfcn = ap (λ (x : TdmaLine). x.arfcn) a.numbers in
       let there = ap (λ (x : ℕ). who_of (cell_of words) (line_at (cell_of words) n).tn x fn direction) arfcn ∙ agrees.named n fn direction a.slot a.accepted_is in
       q ∙ ap who_numbers there ∙ ap (λ (x : TdmaLine). record { refusal = 0; found = 1; line = n; answer = x }) (sym a.numbers)
 

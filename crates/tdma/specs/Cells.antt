@@ -12,7 +12,7 @@ use Rattle.c_answers.specs.declared.TdmaAnswer.{TdmaAnswer}
 use Rattle.c_answers.specs.declared.TdmaLine.{TdmaLine}
 use Rattle.c_answers.specs.declared.TdmaWho.{TdmaWho}
 use Rattle.c_answers.specs.Numbers.{answer_numbers}
-pub use Rattle.c_answers.specs.Numbers.{line_fields, nobody, page_numbers}
+pub use Rattle.c_answers.specs.Numbers.{no_tuning, line_fields, nobody, page_numbers}
 
 -- the answer, and the cell that the words hold after a call, are the definition's
 abbrev pub Left : TdmaAnswer → List ℕ → Step → Type 0
@@ -24,8 +24,8 @@ Done r before after s = Left r after s × Untouched s.refusal before after
 
 -- refused, every number but the refusal is 0
 abbrev pub line_numbers : Outcome Slot → TdmaLine
-line_numbers (refused r) = line_fields 0 0 (no_numbers r.number)
-line_numbers (accepted s) = line_fields s.arfcn s.owner (standing_numbers s.standing)
+line_numbers (refused r) = line_fields no_tuning 0 (no_numbers r.number)
+line_numbers (accepted s) = line_fields s.tuning s.owner (standing_numbers s.standing)
 
 -- the line, and its answer as `tdma_line` has it
 abbrev pub match_numbers : Match → TdmaWho

@@ -1,11 +1,14 @@
 -- What else is claimed of the answers that C gets, from the promises of the tdma functions alone; `refusal` is 0 exactly where a call is accepted.
--- proofs/ClockOfC.antt, BurstsOfC.antt, WhoOfC.antt and PageOfC.antt prove the claims. Assumes nothing.
+-- proofs/ClockOfC.antt, BurstsOfC.antt, WhoOfC.antt, RoutedOfC.antt and PageOfC.antt prove the claims. Assumes nothing.
 use Rattle.std.specs.Prelude.{ℕ, ◌≡◌, List, length}
 use Rattle.clock.specs.Clock.{split_of, join_of}
+use Rattle.hops.specs.Hopping.{hop_of}
+use Rattle.hops.specs.Placed.{Placed}
+use Rattle.hops.specs.declared.Tuning.{Tuning}
 use Rattle.layouts.specs.Bursts.{build_normal_of, take_normal_of, build_synchronization_of, take_synchronization_of, build_access_of, take_access_of}
 use Rattle.layouts.specs.Claims.{Call}
 use Rattle.storage.specs.Words.{cell_of}
-use Rattle.rules.specs.State.{line_at}
+use Rattle.rules.specs.State.{line_at, allocation}
 use Rattle.rules.specs.OnAir.{line_of}
 use Rattle.rules.specs.Who.{who_of}
 use Rattle.rules.specs.Paging.{page_of}
@@ -13,10 +16,11 @@ use Rattle.rules.specs.Reached.{Reached, PagedOn}
 use Rattle.c_answers.specs.declared.TdmaAnswer.{TdmaAnswer}
 use Rattle.c_answers.specs.declared.TdmaSplit.{TdmaSplit}
 use Rattle.c_answers.specs.declared.TdmaJoin.{TdmaJoin}
+use Rattle.c_answers.specs.declared.TdmaHop.{TdmaHop}
 use Rattle.c_answers.specs.declared.TdmaLine.{TdmaLine}
 use Rattle.c_answers.specs.declared.TdmaWho.{TdmaWho}
 use Rattle.c_answers.specs.declared.TdmaPage.{TdmaPage}
-use Rattle.c_answers.specs.Numbers.{split_numbers, join_numbers}
+use Rattle.c_answers.specs.Numbers.{split_numbers, join_numbers, hop_numbers}
 use Rattle.tdma.specs.Buffers.{Wrote}
 use Rattle.tdma.specs.Cells.{line_numbers, who_numbers, page_numbers}
 
@@ -74,6 +78,32 @@ pub record WhoOfC (words : List ℕ) : Type 0 where
 -- of the words of every cell that the calls can hand back
 unfoldable pub WhoAndLineOfC : Type 0
 WhoAndLineOfC = (words : List ℕ) → Reached (cell_of words) → WhoOfC words
+
+-- ---- which transceiver: document 02, No. 2
+
+-- what tdma_hop, tdma_line and tdma_who carry of the hop
+abbrev pub tuning_of_hop : TdmaHop → Tuning
+tuning_of_hop a = record { arfcn = a.arfcn; mai = a.mai; position = a.position }
+
+abbrev pub tuning_of_line : TdmaLine → Tuning
+tuning_of_line l = record { arfcn = l.arfcn; mai = l.mai; position = l.position }
+
+-- of whatever is asked of tdma_hop
+unfoldable pub HopOfC : Type 0
+HopOfC = (ca : List ℕ) (m hsn maio fn : ℕ) (a : TdmaHop) → a ≡ hop_numbers (hop_of ca m hsn maio fn) → a.refusal ≡ 0 → Placed ca m (tuning_of_hop a)
+
+-- of the words of every cell that the calls can hand back
+pub record RoutedOfC (words : List ℕ) : Type 0 where
+  pub line : (n fn direction : ℕ) (l : TdmaLine) → AnswersLine words n fn direction l → l.refusal ≡ 0
+      → Placed (allocation (cell_of words)) (line_at (cell_of words) n).mask (tuning_of_line l)
+  pub who : (tn arfcn fn direction : ℕ) (w : TdmaWho) → AnswersWho words tn arfcn fn direction w → w.refusal ≡ 0 → w.found ≡ 1
+      → Placed (allocation (cell_of words)) (line_at (cell_of words) w.line).mask (tuning_of_line w.answer)
+  -- in one timeslot of a frame no two lines have one position
+  pub one_line : (m n fn d e : ℕ) (k l : TdmaLine) → AnswersLine words m fn d k → k.refusal ≡ 0 → AnswersLine words n fn e l → l.refusal ≡ 0
+      → (line_at (cell_of words) m).tn ≡ (line_at (cell_of words) n).tn → k.position ≡ l.position → m ≡ n
+
+unfoldable pub BurstsAreRoutedOfC : Type 0
+BurstsAreRoutedOfC = (words : List ℕ) → Reached (cell_of words) → RoutedOfC words
 
 -- ---- tdma_page and tdma_line
 

@@ -29,14 +29,14 @@ pub fn tdma_join(t1: u32, t2: u32, t3: u32) -> TdmaJoin
     TdmaJoin::from(Frame::join(t1, t2, t3))
 }
 
-// The position that a line uses in a frame, in a cell allocation of this length.
+// MAI and the position that a line uses in a frame, in a cell allocation of this length.
 pub fn tdma_position(length: u32, mask: u64, hsn: u32, maio: u32, frame: u32) -> TdmaPosition
     ensures { result ≡ position_numbers (position_of length mask hsn maio frame) }
 {
     TdmaPosition::from(hopping::position(length, mask, hsn, maio, frame))
 }
 
-// The ARFCN that a line uses in a frame.
+// The ARFCN that a line uses in a frame, with MAI and the position.
 pub fn tdma_hop(ca: &[u16], mask: u64, hsn: u32, maio: u32, frame: u32) -> TdmaHop
     ensures { result ≡ hop_numbers (hop_of ca.now mask hsn maio frame) }
 {

@@ -8,8 +8,9 @@ ghost use Rattle.wording.specs.Table.{direction_text, head_text, title_text, fra
 
 use arrayvec::ArrayVec;
 use clock::Frame;
-use maps::{Blocks, Burst, Content, Kind, OnAir, Place};
+use maps::{Blocks, Burst, Content, Kind, Place};
 use replies::channel_name;
+use slots::OnAir;
 use text::print::{put, put_left, put_number, put_right, put_spaces};
 
 // What is shown, its numbers in the order of the line; the open lines' numbers follow.
@@ -139,7 +140,7 @@ fn shown<const N: usize>(out: &mut ArrayVec<u8, N>, content: Content, owner: u32
 pub fn cell<const N: usize>(out: &mut ArrayVec<u8, N>, on_air: OnAir)
     ensures { out.new.items ≡ written N out.old.items (cell_text on_air) }
 {
-    put_right(out, u64::from(on_air.arfcn), 6);
+    put_right(out, u64::from(on_air.tuning.arfcn), 6);
     put(out, b" ");
     shown(out, on_air.content, on_air.owner);
 }

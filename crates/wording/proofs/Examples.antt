@@ -94,6 +94,8 @@ replies =
     record {
       done = refl;
       number = refl;
+      hop = refl;
+      hop_refused = refl;
       page = refl;
       clash = refl;
       alone_8 = refl;

@@ -2,14 +2,14 @@
 -- computes them. Assumes nothing.
 use Rattle.std.specs.Prelude.{ℕ, ◌≡◌, true, false, Some, None, Result, Ok, Err, [], ◌∷◌, ◌++◌, map}
 use Rattle.answers.specs.declared.Refusal.{Refusal}
-use Rattle.answers.specs.declared.Refusal.TheVariants.{OutOfRange, LineClosed, CommonChannel, Clash, NoSubchannel, Malformed, FixedBit, NoCommonLine}
+use Rattle.answers.specs.declared.Refusal.TheVariants.{OutOfRange, Maio, LineClosed, CommonChannel, Clash, NoSubchannel, Malformed, FixedBit, NoCommonLine}
 use Rattle.maps.specs.declared.Blocks.TheVariants.{One, Two}
 use Rattle.maps.specs.declared.Content.{Content}
 use Rattle.maps.specs.declared.Content.TheVariants.{Idle, Channel}
 use Rattle.maps.specs.declared.Kind.{Kind}
 use Rattle.maps.specs.declared.Kind.TheVariants.{Tch, Sacch, Sdcch, Fcch, Sch, Bcch, Ccch, Rach}
-use Rattle.maps.specs.declared.OnAir.{OnAir}
 use Rattle.maps.specs.declared.Place.{Place}
+use Rattle.slots.specs.declared.OnAir.{OnAir}
 use Rattle.wording.specs.declared.Reason.TheVariants.{UnknownCommand, UnknownBurst, TooFewWords, TooManyWords, NotANumber, NumberTooLarge, CountTooLarge, LineTooLong}
 use Rattle.wording.specs.declared.Command.TheVariants.{Split, Join, Hop, Map, Start, Open, Close, Seize, Release, Line, Who, Page, Build, Take, Table}
 use Rattle.wording.specs.declared.BurstName.TheVariants.{Normal, Synchronization, Access, FrequencyCorrection, Dummy}
@@ -17,7 +17,7 @@ use Rattle.wording.specs.Words.{ascii, parted, past, words_of, first_word, after
 use Rattle.wording.specs.Numbers.{number_of, numbers_of, numbers_in, only_of, list_of, list_filled, parameter, figure}
 use Rattle.wording.specs.Print.{decimal_of, right, left, spaced, bit_character, written}
 use Rattle.wording.specs.Names.{command_of, burst_of}
-use Rattle.wording.specs.Replies.{done_text, number_text, page_text, split_text, map_text, line_text, who_text, bits_text, error_text}
+use Rattle.wording.specs.Replies.{done_text, number_text, hop_text, page_text, split_text, map_text, line_text, who_text, bits_text, error_text}
 use Rattle.wording.specs.Table.{head_text, title_text, frame_text, cell_text}
 
 -- ---- a line's words
@@ -135,9 +135,9 @@ with_one kind p = Channel (record { kind = kind; subchannel = 0; blocks = One p 
 abbrev pub with_two : Place → Place → Content
 with_two p q = Channel (record { kind = Tch; subchannel = 0; blocks = Two p q })
 
--- what a line sends: its ARFCN, the owner, and the channel
-abbrev pub sent : ℕ → ℕ → Content → OnAir
-sent arfcn owner content = record { arfcn = arfcn; content = content; owner = owner }
+-- what a line sends: its ARFCN, MAI and position, the owner, and the channel
+abbrev pub sent : ℕ → ℕ → ℕ → ℕ → Content → OnAir
+sent arfcn mai ca_position owner content = record { tuning = record { arfcn = arfcn; mai = mai; position = ca_position }; content = content; owner = owner }
 
 -- line 2 of the timetable in frame 9, and with another ARFCN and nobody that holds it; and in frame 12, where the channel has number 2
 abbrev pub traffic : Content
@@ -148,10 +148,10 @@ later kind = with_one kind (place_in 0 3)
 
 -- a common part, and a line that has nothing to send
 abbrev pub common : OnAir
-common = sent 10 0 (with_one Ccch (place_in 4 0))
+common = sent 10 0 1 0 (with_one Ccch (place_in 4 0))
 
 abbrev pub silent : OnAir
-silent = sent 10 0 Idle
+silent = sent 10 0 1 0 Idle
 
 -- where a channel stands, as `map` answers
 abbrev pub mapped : Kind → Result Content Refusal
@@ -160,6 +160,8 @@ mapped kind = Ok (with_one kind (place_in 4 3))
 pub record ReplyExamples : Type 0 where
   pub done : done_text (Ok tt) ≡ ascii "ok\n"
   pub number : number_text (Ok 20) ≡ ascii "ok 20\n"
+  pub hop : hop_text (Ok (record { arfcn = 30; mai = 1; position = 2 })) ≡ ascii "ok 30 1 2\n"
+  pub hop_refused : hop_text (Err Maio) ≡ ascii "refused 5\n"
   pub page : page_text (Ok (record { tn = 0; block = 4; frame = 26 })) ≡ ascii "ok 0 4 26\n"
   -- 9 and 15 come with a value, and those beside them alone
   pub clash : done_text (Err (Clash 0)) ≡ ascii "refused 9 0\n"
@@ -182,11 +184,11 @@ pub record ReplyExamples : Type 0 where
   pub bcch : map_text (mapped Bcch) ≡ ascii "ok BCCH 0 4 3\n"
   pub ccch : map_text (mapped Ccch) ≡ ascii "ok CCCH 0 4 3\n"
   pub rach : map_text (mapped Rach) ≡ ascii "ok RACH 0 4 3\n"
-  pub line_common : line_text (Ok common) ≡ ascii "ok 10 CCCH 0 0 4 0\n"
-  pub line_two : line_text (Ok (sent 30 4714 traffic)) ≡ ascii "ok 30 TCH 0 4714 2 1 1 5\n"
-  pub line_idle : line_text (Ok silent) ≡ ascii "ok 10 idle\n"
+  pub line_common : line_text (Ok common) ≡ ascii "ok 10 0 1 CCCH 0 0 4 0\n"
+  pub line_two : line_text (Ok (sent 30 1 2 4714 traffic)) ≡ ascii "ok 30 1 2 TCH 0 4714 2 1 1 5\n"
+  pub line_idle : line_text (Ok silent) ≡ ascii "ok 10 0 1 idle\n"
   pub line_closed : line_text (Err LineClosed) ≡ ascii "refused 7\n"
-  pub who_found : who_text (Ok (Some (record { line = 2; on_air = sent 30 4714 traffic }))) ≡ ascii "ok 2 30 TCH 0 4714 2 1 1 5\n"
+  pub who_found : who_text (Ok (Some (record { line = 2; on_air = sent 50 3 4 4714 traffic }))) ≡ ascii "ok 2 50 3 4 TCH 0 4714 2 1 1 5\n"
   pub who_nobody : who_text (Ok None) ≡ ascii "ok nobody\n"
   pub who_refused : who_text (Err OutOfRange) ≡ ascii "refused 3\n"
   pub bits : bits_text (Ok tt) (0 ∷ 1 ∷ 1 ∷ []) ≡ ascii "ok 011\n"
@@ -211,11 +213,11 @@ pub record TableExamples : Type 0 where
   pub title : title_text 2 ≡ ascii " line 2                        |"
   pub idle : cell_text silent ≡ ascii "    10 idle                    |"
   pub part : cell_text common ≡ ascii "    10 CCCH  -     -  4.0      |"
-  pub frame_9 : frame_text 9 (record { t1 = 0; t2 = 9; t3 = 9 }) ++ cell_text (sent 30 4714 traffic) ++ cell_text (sent 40 0 traffic)
+  pub frame_9 : frame_text 9 (record { t1 = 0; t2 = 9; t3 = 9 }) ++ cell_text (sent 30 1 2 4714 traffic) ++ cell_text (sent 40 2 3 0 traffic)
       ≡ ascii "      9    0  9  9 |    30 TCH   0  4714  2.1  1.5 |    40 TCH   0  free  2.1  1.5 |"
-  pub frame_12 : frame_text 12 (record { t1 = 0; t2 = 12; t3 = 12 }) ++ cell_text (sent 20 4714 (later Sacch)) ++ cell_text (sent 30 0 (later Sacch))
+  pub frame_12 : frame_text 12 (record { t1 = 0; t2 = 12; t3 = 12 }) ++ cell_text (sent 20 0 1 4714 (later Sacch)) ++ cell_text (sent 30 1 2 0 (later Sacch))
       ≡ ascii "     12    0 12 12 |    20 SACCH 0  4714  0.3      |    30 SACCH 0  free  0.3      |"
   -- an SDCCH belongs to a subchannel, and an FCCH is a common part
-  pub sdcch : cell_text (sent 20 4714 (later Sdcch)) ≡ ascii "    20 SDCCH 0  4714  0.3      |"
-  pub fcch : cell_text (sent 20 4714 (later Fcch)) ≡ ascii "    20 FCCH  -     -  0.3      |"
+  pub sdcch : cell_text (sent 20 0 1 4714 (later Sdcch)) ≡ ascii "    20 SDCCH 0  4714  0.3      |"
+  pub fcch : cell_text (sent 20 0 1 4714 (later Fcch)) ≡ ascii "    20 FCCH  -     -  0.3      |"
   pub last_frame : frame_text 2715647 (record { t1 = 2047; t2 = 25; t3 = 50 }) ≡ ascii "2715647 2047 25 50 |"

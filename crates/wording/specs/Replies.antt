@@ -7,15 +7,16 @@ use Rattle.answers.specs.Refusals.{refusal_of}
 use Rattle.clock.specs.declared.Frame.{Frame}
 use Rattle.clock.specs.Clock.{prime_of}
 use Rattle.groups.specs.declared.PagingBlock.{PagingBlock}
+use Rattle.hops.specs.declared.Tuning.{Tuning}
 use Rattle.maps.specs.declared.Blocks.{Blocks}
 use Rattle.maps.specs.declared.Blocks.TheVariants.{One, Two}
 use Rattle.maps.specs.declared.Content.{Content}
 use Rattle.maps.specs.declared.Content.TheVariants.{Idle, Channel}
-use Rattle.maps.specs.declared.Found.{Found}
 use Rattle.maps.specs.declared.Kind.{Kind}
 use Rattle.maps.specs.declared.Kind.TheVariants.{Tch, Sacch, Sdcch, Fcch, Sch, Bcch, Ccch, Rach}
-use Rattle.maps.specs.declared.OnAir.{OnAir}
 use Rattle.maps.specs.declared.Place.{Place}
+use Rattle.slots.specs.declared.Found.{Found}
+use Rattle.slots.specs.declared.OnAir.{OnAir}
 use Rattle.wording.specs.Words.{ascii}
 use Rattle.wording.specs.Print.{decimal_of, spaced, bit_character}
 use Rattle.wording.specs.declared.Reason.{Reason}
@@ -34,9 +35,16 @@ answered (Err refusal) text = refused_text refusal
 abbrev pub done_text : Result Unit Refusal → List ℕ
 done_text r = answered r (λ u. [])
 
--- "ok FN", "ok ARFCN"
+-- "ok FN"
 abbrev pub number_text : Result ℕ Refusal → List ℕ
 number_text r = answered r (λ n. spaced (n ∷ []))
+
+-- "ok ARFCN MAI POSITION"
+abbrev pub tuning_text : Tuning → List ℕ
+tuning_text t = spaced (t.arfcn ∷ t.mai ∷ t.position ∷ [])
+
+abbrev pub hop_text : Result Tuning Refusal → List ℕ
+hop_text r = answered r tuning_text
 
 -- "ok TN BLOCK FRAME"
 abbrev pub paging_text : PagingBlock → List ℕ
@@ -90,9 +98,9 @@ content_text (Channel b) owner = ascii " " ++ channel_text b.kind ++ spaced (b.s
 abbrev pub map_text : Result Content Refusal → List ℕ
 map_text r = answered r (λ c. content_text c None)
 
--- "ARFCN idle, or ARFCN CHANNEL S OWNER BLOCK PLACE [BLOCK PLACE]"
+-- "ARFCN MAI POSITION idle, or ARFCN MAI POSITION CHANNEL S OWNER BLOCK PLACE [BLOCK PLACE]"
 abbrev pub slot_text : OnAir → List ℕ
-slot_text a = spaced (a.arfcn ∷ []) ++ content_text a.content (Some a.owner)
+slot_text a = tuning_text a.tuning ++ content_text a.content (Some a.owner)
 
 abbrev pub line_text : Result OnAir Refusal → List ℕ
 line_text r = answered r slot_text

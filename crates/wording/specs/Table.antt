@@ -7,8 +7,8 @@ use Rattle.maps.specs.declared.Blocks.TheVariants.{One, Two}
 use Rattle.maps.specs.declared.Burst.{Burst}
 use Rattle.maps.specs.declared.Content.{Content}
 use Rattle.maps.specs.declared.Content.TheVariants.{Idle, Channel}
-use Rattle.maps.specs.declared.OnAir.{OnAir}
 use Rattle.maps.specs.declared.Place.{Place}
+use Rattle.slots.specs.declared.OnAir.{OnAir}
 use Rattle.wording.specs.Words.{ascii}
 use Rattle.wording.specs.Print.{decimal_of, right, left}
 use Rattle.wording.specs.Replies.{channel_text}
@@ -52,4 +52,4 @@ shown_text (Channel b) owner = left 5 (channel_text b.kind) ++ ascii " " ++ hold
 
 -- what a line has in a frame: its ARFCN, and idle or the channel
 abbrev pub cell_text : OnAir → List ℕ
-cell_text a = right 6 (decimal_of a.arfcn) ++ ascii " " ++ shown_text a.content a.owner
+cell_text a = right 6 (decimal_of a.tuning.arfcn) ++ ascii " " ++ shown_text a.content a.owner
