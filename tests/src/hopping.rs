@@ -51,14 +51,46 @@ pub fn address(hsn: u32, now: Counters) -> usize {
     (hsn ^ (now.t1 as u32 % 64)) as usize + now.t3 as usize
 }
 
-/// S, from a table entry, the frame's T2 and T3, and N.
-pub fn index(entry: u32, t2: u32, t3: u32, n: u32) -> u32 {
-    let power = (0..binary_digits(n)).fold(1, |power, _| power * 2);
-    let m = (t2 + entry) % power;
-    if m < n {
-        m
-    } else {
-        (m + t3 % power) % n
+/// M, M' and T' of a frame and N.
+#[derive(Clone, Copy, Debug, PartialEq, Eq)]
+pub struct Numbers {
+    pub n: u32,
+    pub m: u32,
+    pub m_reduced: u32,
+    pub t_reduced: u32,
+}
+
+impl Numbers {
+    /// From a table entry, the frame's T2 and T3, and N.
+    pub fn new(entry: u32, t2: u32, t3: u32, n: u32) -> Numbers {
+        let power = (0..binary_digits(n)).fold(1, |power, _| power * 2);
+        let m = t2 + entry;
+        Numbers {
+            n,
+            m,
+            m_reduced: m % power,
+            t_reduced: t3 % power,
+        }
+    }
+
+    /// By the entry of RNTABLE that a frame reads.
+    pub fn of(hsn: u32, now: Counters, n: u32) -> Numbers {
+        let address = address(hsn, now);
+        let entry = RNTABLE[address / 10][address % 10];
+        Numbers::new(entry, now.t2.into(), now.t3.into(), n)
+    }
+
+    /// M' + T'.
+    pub fn sum(self) -> u32 {
+        self.m_reduced + self.t_reduced
+    }
+
+    /// S.
+    pub fn s(self) -> u32 {
+        match self.m_reduced < self.n {
+            true => self.m_reduced,
+            false => self.sum() % self.n,
+        }
     }
 }
 
@@ -67,9 +99,7 @@ fn mobile_allocation_index(n: u32, hsn: u32, maio: u32, frame: u32, now: Counter
     if hsn == 0 {
         return (frame + maio) % n;
     }
-    let address = address(hsn, now);
-    let entry = RNTABLE[address / 10][address % 10];
-    (index(entry, now.t2 as u32, now.t3 as u32, n) + maio) % n
+    (Numbers::of(hsn, now, n).s() + maio) % n
 }
 
 /// A place in the list of positions, which is MAI, and the position that stands there.

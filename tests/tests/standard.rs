@@ -29,7 +29,7 @@ use tdma_tests::bursts::Call::{self, *};
 use tdma_tests::clock::HYPERFRAME;
 use tdma_tests::frame_map::Channel::{self, *};
 use tdma_tests::frame_map::FRAMES;
-use tdma_tests::hopping::{index, RNTABLE};
+use tdma_tests::hopping::{Numbers, RNTABLE};
 use tdma_tests::library::{self, BurstAnswer};
 use tdma_tests::FIXED_BIT;
 
@@ -106,7 +106,7 @@ fn the_table_that_the_library_hops_by() {
                 let frame = library::join(t1, t2, t3 as u32).frame;
                 let told = library::position(64, u64::MAX, hsn, 0, frame);
                 assert_eq!((told.refusal, told.mai), (0, told.position));
-                possible.retain(|&entry| index(entry, t2, t3 as u32, 64) == told.mai);
+                possible.retain(|&entry| Numbers::new(entry, t2, t3 as u32, 64).s() == told.mai);
             }
         }
         let entry = RNTABLE[at as usize / 10][at as usize % 10];

@@ -1,7 +1,7 @@
 // The hopping sequence: MAI from N, HSN, MAIO and the frame.
-ghost use Rattle.std.specs.Prelude.{◌≡◌, ◌<◌, ◌≤◌, ◌+◌, ◌%◌};
+ghost use Rattle.std.specs.Prelude.{◌≡◌, ◌<◌, ◌≤◌, ◌+◌, ◌%◌, ◌^◌, get_or};
 ghost use Rattle.answers.specs.Ranges.{hyperframe};
-ghost use Rattle.hops.specs.Hopping.{S, mai_of};
+ghost use Rattle.hops.specs.Hopping.{rntable, nbin, M, S, mai_of};
 ghost use Rattle.clock.specs.Clock.{parts_of};
 
 use clock::Frame;
@@ -14,26 +14,54 @@ const RNTABLE: [u8; 114] = [
     49, 7, 79, 119, 61, 22, 84, 9, 97, 91, 15, 21, 24, 46, 39, 93, 105, 65, 70, 125, 99, 17, 123,
 ];
 
+// An entry of RNTABLE.
+#[tactic(auto, unfolding(hops::specs::Hopping::rntable))]
+fn table_entry(index: u32) -> u8
+    requires { index < 114 }
+    ensures { result ≡ get_or rntable index 0 }
+{
+    RNTABLE[index as usize]
+}
+
+// M, which is at most 152.
+#[tactic(auto, using(hops::proofs::Mai::index_lt, crate::proofs::Computed::entry_le))]
+fn m(hsn: u32, frame: Frame) -> u8
+    requires { (hsn < 64) × (frame.t2 ≤ 25) × (frame.t3 ≤ 50) }
+    ensures { result ≡ M hsn frame }
+{
+    let index = (hsn ^ (frame.t1 % 64)) + frame.t3;
+    frame.t2 as u8 + table_entry(index)
+}
+
+// x mod 2^NBIN: the lowest NBIN bits of x. N has 8 less NBIN leading zeros.
+#[tactic(auto, using(crate::proofs::Computed::leading_lt, crate::proofs::Computed::masked))]
+fn reduced(x: u8, n: u8) -> u8
+    requires { (0 < n) × (n ≤ 64) }
+    ensures { result ≡ x % 2 ^ nbin n }
+{
+    x & (u8::MAX >> n.leading_zeros())
+}
+
 // x mod n, for x below twice n: a subtraction at most.
-fn wrapped(x: u32, n: u32) -> u32
+fn wrapped(x: u8, n: u8) -> u8
     requires { x < n + n }
     ensures { result ≡ x % n }
 {
     if x < n { x } else { x - n }
 }
 
-// S of a frame. 2 to the power of NBIN is `room`. Both cases are computed: which it is hangs on the frame, and cannot be foreseen.
-#[tactic(auto, using(hops::proofs::Mai::index_lt, hops::proofs::Mai::nbin_le, crate::proofs::Computed::nbin_leading, crate::proofs::Computed::room_pos, crate::proofs::Computed::room_le, crate::proofs::Computed::twice_once, crate::proofs::Computed::s_below, crate::proofs::Computed::s_above), unfolding(hops::specs::Hopping::rntable))]
-fn s(n: u32, hsn: u32, frame: Frame) -> u32
+// S of a frame. M' and T', and their sum, which is at most 177, are bytes too, and nothing is cut off. Both cases of S are computed: which it
+// is hangs on the frame, and cannot be foreseen.
+#[tactic(auto, using(crate::proofs::Computed::reduced_lt, crate::proofs::Computed::twice_once, crate::proofs::Computed::s_below, crate::proofs::Computed::s_above))]
+fn s(n: u8, hsn: u32, frame: Frame) -> u8
     requires { (0 < n) × (n ≤ 64) × (hsn < 64) × (frame.t2 ≤ 25) × (frame.t3 ≤ 50) }
     ensures { result ≡ S n hsn frame }
 {
-    let index = (hsn ^ (frame.t1 % 64)) + frame.t3;
-    let m = frame.t2 + u32::from(RNTABLE[index as usize]);
-    let room = 1u32 << (32 - n.leading_zeros());
-    let reduced = m % room;
-    let other = wrapped(wrapped(reduced + frame.t3 % room, 2 * n), n);
-    if reduced < n { reduced } else { other }
+    let m_reduced: u8 = reduced(m(hsn, frame), n);
+    let t_reduced: u8 = reduced(frame.t3 as u8, n);
+    let sum: u8 = m_reduced + t_reduced;
+    let other = wrapped(wrapped(sum, 2 * n), n);
+    if m_reduced < n { m_reduced } else { other }
 }
 
 // MAI of frame FN, whose counters are `frame`.
@@ -45,5 +73,6 @@ pub(crate) fn mai(n: u32, hsn: u32, maio: u32, number: u32, frame: Frame) -> u32
     if hsn == 0 {
         return (number + maio) % n;
     }
-    wrapped(s(n, hsn, frame) + maio, n)
+    let n_byte = n as u8;
+    u32::from(wrapped(s(n_byte, hsn, frame) + maio as u8, n_byte))
 }

@@ -6,3 +6,4 @@ pub mod Mai
 pub mod Borders
 pub mod Claims
 pub mod Placed
+pub mod Sums

@@ -5,11 +5,10 @@ use mathlib.Core.Bool.{Bool, true, false, cond}
 use native.Mathlib.Nat.{mod-lt}
 use native.Mathlib.Omega.{arith}
 use lib.Bits.{bit_xor, xor_lt}
-use lib.Dec.{ltb, leb, eqb, lit<}
+use lib.Dec.{ltb, eqb, lit<}
 use lib.ListN.{get_or}
-use borrow.Author.Tests.{lt-ltb, ltb-true, ltb-false, leb-true, eq-eqb, ne_eqb}
-use Rattle.answers.specs.Search.{all_below, least}
-use Rattle.answers.proofs.Search.{all_at, First, first_of, least_first}
+use borrow.Author.Tests.{lt-ltb, ltb-true, ltb-false, eq-eqb, ne_eqb}
+use Rattle.answers.proofs.Search.{First, first_of, least_first}
 use Rattle.answers.proofs.Tables.{every, at_most}
 use Rattle.clock.specs.declared.Frame.{Frame}
 use Rattle.clock.specs.Clock.{parts_of}
@@ -42,11 +41,6 @@ module _ (n : ℕ) (h : n < 2 ^ 63) where
 
   pub nbin_least : (k : ℕ) → k < nbin n → 2 ^ k ≤ n
   nbin_least k l = ltb-false _ _ (width.none k (subst (λ (m : ℕ). k < m) width_is l))
-
--- for N up to 64 it is at most 7: one test over the 65 numbers
-pub nbin_le : (n : ℕ) → n ≤ 64 → nbin n ≤ 7
-unfolding nbin least all_below
-nbin_le n h = leb-true _ _ (all_at (λ (k : ℕ). leb (nbin k) 7) 65 refl n (omega arith))
 
 -- ---- S
 

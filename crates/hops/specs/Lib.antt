@@ -4,4 +4,5 @@ pub mod Hopping
 pub mod Clash
 pub mod Placed
 pub mod Borders
+pub mod Sums
 pub mod Claims
