@@ -42,7 +42,8 @@ extern "C" {
 /* Why a call was refused. The functions below give 1 to 16. */
 enum tdma_refusal {
     TDMA_ACCEPTED = 0,
-    TDMA_CELL_ALLOCATION = 1,   /* CA isn't 1 to 64 ARFCNs of 0 to 1023, strictly ascending */
+    TDMA_CELL_ALLOCATION = 1,   /* CA isn't 1 to 64 ARFCNs of 0 to 1023, each once and in the order
+                                   1, 2, .., 1023, 0 */
     TDMA_CELL_PARAMETER = 2,    /* C0 not in CA, or BCC, BS_AG_BLKS_RES or BS_PA_MFRMS out of range */
     TDMA_OUT_OF_RANGE = 3,      /* line number, TN, HSN, combination, TSC, owner, FN, direction or
                                    ARFCN out of range, or an IMSI that isn't 3 to 15 digits */
@@ -113,8 +114,11 @@ tdma_join_answer tdma_join(uint32_t t1, uint32_t t2, uint32_t t3);
 /*
  * Frequency hopping.
  *
- * A mobile allocation is a 64-bit mask over the cell allocation CA: bit p (bit 0 is worth 1) stands
- * for CA's entry p, counted from 0. N is the number of its ones.
+ * A cell allocation CA is 1 to 64 ARFCNs of 0 to 1023, each once and in the order in which handsets
+ * list them (3GPP TS 04.08): 1, 2, .., 1023, 0. ARFCN 0 comes last, if the cell has it.
+ *
+ * A mobile allocation is a 64-bit mask over CA: bit p (bit 0 is worth 1) stands for CA's entry p,
+ * counted from 0. N is the number of its ones.
  */
 
 typedef struct {
@@ -149,8 +153,8 @@ typedef struct {
 /*
  * The channel number (ARFCN) that a line uses in a frame, its MAI and its position. The whole cell
  * allocation is checked in each call, so the cost grows with its length.
- *   ca, ca_length: the cell allocation, 1 to 64 ARFCNs of 0 to 1023, strictly ascending. The length
- *                  is in entries; with 0 the call is refused.
+ *   ca, ca_length: the cell allocation, 1 to 64 ARFCNs of 0 to 1023, each once and in the order 1, 2,
+ *                  .., 1023, 0. The length is in entries; with 0 the call is refused.
  *   mask, hsn, maio, frame: as for tdma_position.
  * Refusals, in this order: TDMA_CELL_ALLOCATION, TDMA_OUT_OF_RANGE (hsn, frame),
  * TDMA_MOBILE_ALLOCATION, TDMA_MAIO.

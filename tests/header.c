@@ -100,6 +100,31 @@ static void hop_calls(void)
     expect("hop, frame", is_bare(&past, sizeof past, TDMA_OUT_OF_RANGE));
 }
 
+/* ARFCN 0 is last in CA, so that the highest one of a mask stands for it. */
+static void arfcn_0_calls(void)
+{
+    static const uint16_t ca[4] = {5, 10, 0, 15};
+    tdma_hop_answer hop = tdma_hop(ca, 3, 6, 0, 0, 1);
+    tdma_hop_answer first = tdma_hop(ca + 2, 2, 1, 0, 0, 1);
+    tdma_hop_answer amid = tdma_hop(ca, 4, 6, 0, 0, 1);
+    tdma_cell cell;
+    tdma_changed start = tdma_start(&cell, ca, 3, 0, 7, 2, 9);
+    tdma_changed lowest = tdma_open(&cell, 0, 0, 1, 0, 0, 4, 7);
+    tdma_changed common = tdma_open(&cell, 0, 0, 4, 0, 0, 4, 7);
+    tdma_who_answer who = tdma_who(&cell, 0, 0, 12, TDMA_DOWNLINK);
+
+    expect("hop to ARFCN 0", hop.refusal == TDMA_ACCEPTED && hop.arfcn == 0 && hop.mai == 1 &&
+                                 hop.position == 2);
+    expect("hop, ARFCN 0 first", is_bare(&first, sizeof first, TDMA_CELL_ALLOCATION));
+    expect("hop, ARFCN 0 amid", is_bare(&amid, sizeof amid, TDMA_CELL_ALLOCATION));
+    expect("start, C0 0", start.refusal == TDMA_ACCEPTED);
+    expect("open a 4, not C0", lowest.refusal == TDMA_COMMON_CHANNEL);
+    expect("open a 4, C0 0", common.refusal == TDMA_ACCEPTED);
+    expect("who, ARFCN 0", who.refusal == TDMA_ACCEPTED && who.found == 1 && who.line == 0 &&
+                               who.answer.arfcn == 0 && who.answer.mai == 0 &&
+                               who.answer.position == 2);
+}
+
 static void position_calls(void)
 {
     tdma_position_answer position = tdma_position(4, 15, 1, 0, 3);
@@ -459,6 +484,7 @@ int main(void)
 {
     clock_calls();
     hop_calls();
+    arfcn_0_calls();
     position_calls();
     map_calls();
     start_calls();

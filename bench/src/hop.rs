@@ -14,23 +14,22 @@ const NS: [u32; 6] = [1, 4, 7, 16, 33, 64];
 /// memory.
 const RADIO_LINES: usize = 32;
 
-/// A line of a cell, with its mobile allocation as a mask and as a list of ARFCNs.
+/// A line of a cell, with its mobile allocation as a mask and as a list of CA positions.
 struct RadioLine {
     ca: Vec<u16>,
     mask: u64,
-    ma: Vec<u16>,
+    positions: Vec<u16>,
     hsn: u32,
     maio: u32,
 }
 
-/// A line with this mask in a cell allocation of `length` entries, which are their own positions, so
-/// that position and ARFCN are the same number.
+/// A line with this mask in a cell allocation of `length` entries.
 fn radio_line(random: &mut Random, mask: u64, length: u32, cyclic: bool) -> RadioLine {
-    let ma = hopping::positions(mask).into_iter();
+    let positions = hopping::positions(mask).into_iter();
     RadioLine {
-        ca: (0..length as u16).collect(),
+        ca: (1..=length as u16).collect(),
         mask,
-        ma: ma.map(|position| position as u16).collect(),
+        positions: positions.map(|position| position as u16).collect(),
         hsn: if cyclic { 0 } else { 1 + random.below(63) },
         maio: random.below(mask.count_ones()),
     }
@@ -69,7 +68,7 @@ fn position_line(label: String, asked: Asked) -> Line {
             library::position(64, l.mask, l.hsn, l.maio, frame).position
         }),
         contender("libosmocore", asked, |&(l, frame)| {
-            osmocore::hop(&l.ma, l.hsn, l.maio, frame)
+            osmocore::hop(&l.positions, l.hsn, l.maio, frame)
         }),
     ];
     Line::new(label, INPUTS, contenders)
@@ -106,7 +105,8 @@ pub fn position_growth(random: &mut Random) -> Vec<Line> {
     NS.map(line).into()
 }
 
-/// The ARFCN, with the check of a cell allocation of N entries in each call.
+/// The ARFCN, with the check of a cell allocation of N entries in each call. All of it is the mobile
+/// allocation.
 pub fn table(random: &mut Random) -> Table {
     let line = |n: u32| {
         let asked = asked(random, |random| {
@@ -121,7 +121,7 @@ pub fn table(random: &mut Random) -> Table {
                 hop.unwrap().arfcn
             }),
             contender("libosmocore, unchecked", asked, |&(l, frame)| {
-                osmocore::hop(&l.ma, l.hsn, l.maio, frame)
+                osmocore::hop(&l.ca, l.hsn, l.maio, frame)
             }),
         ];
         Line::new(format!("CA of {n}, N = {n}"), INPUTS, contenders)

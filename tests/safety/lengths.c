@@ -23,7 +23,7 @@ static void cell_allocation(both_cells *cells, slices at, size_t length, uint16_
     uint16_t i;
 
     for (i = 0; i < LONGEST; i++)
-        entries[i] = (uint16_t)(5 * i);
+        entries[i] = (uint16_t)(5 * (i + 1));
     if (length > 0)
         entries[length - 1] = last;
     ca = (const void *)copied(at.read, entries, length * sizeof *ca, side);
@@ -59,6 +59,7 @@ static void cell_slices(slices at)
     for (side = PAGE_BEFORE; side <= PAGE_AFTER; side++)
         for (length = 0; length <= LONGEST; length++) {
             both_place(&cells, (enum side)side);
+            cell_allocation(&cells, at, length, 0, (enum side)side);
             cell_allocation(&cells, at, length, 1023, (enum side)side);
             cell_allocation(&cells, at, length, 1024, (enum side)side);
             both_three_lines(&cells);

@@ -73,19 +73,32 @@ static uint64_t any_mask(mixture *m, uint32_t length)
     return (random_word(&m->state) & random_word(&m->state) & all) | lowest;
 }
 
-/* A cell allocation, ascending; once in eight an entry is as the one before it, or 1024. */
+/* Spoils an entry of a cell allocation: as the one before it, ARFCN 0 that isn't last, or 1024. */
+static void spoil_entry(mixture *m, uint16_t *ca, uint32_t length)
+{
+    const uint32_t i = below(&m->state, length), kind = below(&m->state, 4);
+
+    if (kind == 0 && i > 0)
+        ca[i] = ca[i - 1];
+    else if (kind == 1 && i + 1 < length)
+        ca[i] = 0;
+    else
+        ca[i] = 1024;
+}
+
+/* A cell allocation, ascending, one in four with ARFCN 0 last; once in eight an entry is odd. */
 static void any_allocation(mixture *m, uint16_t *ca, uint32_t length)
 {
-    uint32_t i, arfcn = below(&m->state, 16);
+    uint32_t i, arfcn = 0;
 
     for (i = 0; i < length; i++) {
-        ca[i] = (uint16_t)arfcn;
         arfcn += 1 + below(&m->state, 15);
+        ca[i] = (uint16_t)arfcn;
     }
-    if (once_in(&m->state, 8)) {
-        i = below(&m->state, length);
-        ca[i] = (uint16_t)(i == 0 || once_in(&m->state, 2) ? 1024 : ca[i - 1]);
-    }
+    if (once_in(&m->state, 4))
+        ca[length - 1] = 0;
+    if (once_in(&m->state, 8))
+        spoil_entry(m, ca, length);
 }
 
 static void hopping_call(mixture *m)

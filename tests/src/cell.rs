@@ -59,7 +59,7 @@ pub struct OpenLine {
     pub tn: u32,
     /// The mask that open was given, to hold answers to it; nothing is worked out by it.
     pub mask: u64,
-    /// The mobile allocation, ascending.
+    /// The mobile allocation, in CA's order.
     pub ma: Vec<u16>,
     pub hsn: u32,
     pub maio: u32,

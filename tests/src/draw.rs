@@ -50,13 +50,17 @@ pub fn odd_plan(random: &mut Random) -> Plan {
     plan
 }
 
+/// Spoils it one way of several. Where `at` is odd the list is turned round by `at` in place of
+/// being reversed, and gets an ARFCN 0 there in place of an entry that it has.
 fn spoil_allocation(random: &mut Random, ca: &mut Vec<u16>) {
     let at = random.below(ca.len() as u32) as usize;
     match random.below(6) {
         0 => ca.clear(),
         1 => *ca = random.cell_allocation(65),
         2 => *ca = random.cell_allocation(1000),
+        3 if at % 2 == 1 => ca.rotate_left(at),
         3 => ca.reverse(),
+        4 if at % 2 == 1 => ca.insert(at, 0),
         4 => ca.insert(at, ca[at]),
         _ => *ca.last_mut().unwrap() = random.one_of(&[1024, 2048, u16::MAX]),
     }

@@ -125,10 +125,19 @@ pub fn position(length: u32, mask: u64, hsn: u32, maio: u32, frame: u32) -> Answ
     Ok(Place { mai, position })
 }
 
-/// Whether these are 1 to 64 ARFCNs, strictly ascending.
+/// Where a cell allocation has an ARFCN: 1, 2, .., 1023 as they are, and 0 behind them (document
+/// 02, No. 3).
+fn rank(arfcn: u16) -> u16 {
+    match arfcn {
+        0 => 1024,
+        _ => arfcn,
+    }
+}
+
+/// Whether these are 1 to 64 ARFCNs, each once and in the order 1, 2, .., 1023, 0.
 pub fn is_cell_allocation(ca: &[u16]) -> bool {
-    let ascending = ca.windows(2).all(|pair| pair[0] < pair[1]);
-    (1..=64).contains(&ca.len()) && ascending && ca.iter().all(|&arfcn| arfcn <= 1023)
+    let in_order = ca.windows(2).all(|pair| rank(pair[0]) < rank(pair[1]));
+    (1..=64).contains(&ca.len()) && in_order && ca.iter().all(|&arfcn| arfcn <= 1023)
 }
 
 /// What a line is tuned to in a frame: the ARFCN, MAI, and the CA position that has the ARFCN.

@@ -5,8 +5,9 @@
 //! of frames that are painted block by block, a book of the open lines, a walk to the frame where a
 //! paging block begins. `bursts` has the layouts of clause 5.2 written out bit by bit. `library` is
 //! the library under test as C sees it. `placed` holds its answers to the mask and the cell
-//! allocation. `random` draws the inputs, and `draw` whole calls on a cell, which `calls` makes on
-//! both. `c_api` is the second implementation for C.
+//! allocation, and asks a `handset`, which has got the cell's ARFCNs as a set. `random` draws the
+//! inputs, and `draw` whole calls on a cell, which `calls` makes on both. `c_api` is the second
+//! implementation for C.
 //!
 //! For the program `schedule`, `command` reads a line of its text format, `schedule` answers whole
 //! inputs from the second implementation, with `timetable` for the tables, `draw_line` and `script`
@@ -22,6 +23,7 @@ pub mod command;
 pub mod draw;
 pub mod draw_line;
 pub mod frame_map;
+pub mod handset;
 pub mod hopping;
 pub mod library;
 pub mod paging;

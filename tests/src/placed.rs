@@ -1,8 +1,10 @@
-//! Whether an answer's ARFCN, MAI and position belong together: the position is the one whose entry in
-//! the cell allocation is the ARFCN, and its bit in the mask is one and has MAI ones below it. A
-//! refused answer has none of them. All that compare such answers ask this, too.
+//! Whether an answer's ARFCN, MAI and position belong together: the position is the one whose entry
+//! in the cell allocation is the ARFCN, and its bit in the mask is one and has MAI ones below it;
+//! and a handset, which lists the ARFCNs by itself, agrees. A refused answer has none of them. All
+//! that compare such answers ask this, too.
 
 use crate::cell::Cell;
+use crate::handset::{self, Arfcns};
 use crate::library::{HopAnswer, LineAnswer, PositionAnswer, WhoAnswer};
 
 /// How many ones stand below a bit of a mask.
@@ -43,7 +45,8 @@ pub fn hop(ca: &[u16], mask: u64, answer: HopAnswer) -> bool {
         0 => having.next() == Some(at) && having.next().is_none(),
         _ => arfcn == 0,
     };
-    entry && position(ca.len() as u32, mask, of_position)
+    let handset = refusal != 0 || handset::agrees(&Arfcns::of(ca), mask, answer);
+    entry && position(ca.len() as u32, mask, of_position) && handset
 }
 
 pub fn line(ca: &[u16], mask: u64, answer: LineAnswer) -> bool {

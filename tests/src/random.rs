@@ -59,12 +59,17 @@ impl Random {
             .sum()
     }
 
-    /// A cell allocation of `length` entries.
+    /// A cell allocation of `length` entries. About one in four has ARFCN 0, last and in place of
+    /// its lowest one: those whose entries have a sum that 4 divides, so that no more is drawn.
     pub fn cell_allocation(&mut self, length: u32) -> Vec<u16> {
-        self.choose(length, 1024)
-            .into_iter()
-            .map(|arfcn| arfcn as u16)
-            .collect()
+        let chosen = self.choose(length, 1024).into_iter();
+        let mut ca: Vec<u16> = chosen.map(|arfcn| arfcn as u16).collect();
+        let sum: u32 = ca.iter().map(|&arfcn| u32::from(arfcn)).sum();
+        if ca[0] == 0 || sum % 4 == 0 {
+            ca.remove(0);
+            ca.push(0);
+        }
+        ca
     }
 
     /// A frame: one in four near the end of the hyperframe.

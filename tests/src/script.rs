@@ -39,6 +39,40 @@ table 1 0 7 0
 table 2 1 2715647 2
 ";
 
+/// Hops and starts with ARFCN 0, last in CA and elsewhere; and a cell whose common line is on
+/// ARFCN 0 and whose two traffic lines hop over it, too.
+const WITH_ARFCN_0: &str = "
+hop 7 0 0 0 5 10 0
+hop 7 0 0 2 5 10 0
+hop 6 0 0 1 5 10 0
+hop 4 0 0 1 5 10 0
+hop 7 0 0 0 0 5 10
+hop 7 0 0 0 5 0 10
+hop 3 0 0 0 0 0
+start 0 3 1 5 0 5 10
+start 5 3 1 5 5 0 10
+start 5 3 1 5 5 0 0
+start 0 3 1 5 5 10 0
+open 0 0 1 0 0 4 3
+open 0 0 4 0 0 4 3
+open 8 1 7 21 0 1 0
+open 9 1 7 21 2 2 0
+seize 9 1 4711
+line 0 12 0
+line 8 25 1
+line 8 28 1
+line 9 2715647 0
+who 0 0 12 0
+who 1 0 24 0
+who 1 0 25 0
+who 1 0 26 1
+who 1 0 27 1
+who 1 0 28 1
+who 2 0 28 1
+table 1 0 24 8
+page 007 0
+";
+
 /// A line and its answer.
 pub struct Asked {
     pub line: Vec<u8>,
@@ -63,6 +97,12 @@ impl Script {
     fn ask(&mut self, line: Vec<u8>) {
         let answer = self.session.answer(&line);
         self.asked.push(Asked { line, answer });
+    }
+
+    fn ask_all(&mut self, lines: &str) {
+        for line in lines.lines() {
+            self.ask(line.into());
+        }
     }
 
     /// Draws lines until so many more of them have an answer.
@@ -102,11 +142,10 @@ impl Script {
 pub fn gate() -> Script {
     let mut script = Script::new(64);
     script.draw(DRAWN / 2, true);
-    for line in PLANNED.lines() {
-        script.ask(line.into());
-    }
+    script.ask_all(PLANNED);
     script.draw_long(70_000);
     script.draw(DRAWN / 2, true);
+    script.ask_all(WITH_ARFCN_0);
     script
 }
 

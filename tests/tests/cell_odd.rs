@@ -116,8 +116,10 @@ fn every_value_of_start_at_its_largest() {
 fn odd_allocations() -> Vec<Vec<u16>> {
     vec![
         vec![],
-        (0..65).collect(),
-        (0..1000).collect(),
+        (1..66).collect(),
+        (1..65).chain([0]).collect(),
+        (1..1001).collect(),
+        (1..1024).chain([0]).collect(),
         (0..1024).collect(),
         vec![20, 10],
         vec![10, 30, 20, 40],
@@ -126,6 +128,12 @@ fn odd_allocations() -> Vec<Vec<u16>> {
         vec![10, 1024],
         vec![1024],
         vec![10, 20, u16::MAX],
+        vec![0, 10],
+        vec![0, 0],
+        vec![10, 0, 20],
+        vec![10, 20, 0, 0],
+        vec![20, 10, 0],
+        vec![10, 1024, 0],
     ]
 }
 
@@ -138,7 +146,13 @@ fn odd_cell_allocations_are_refused() {
         assert_eq!(Both::start(&odd).0, CELL_ALLOCATION, "{odd:?}");
         assert_eq!(Both::start(&worse).0, CELL_ALLOCATION, "{worse:?}");
     }
-    assert_eq!(Both::start(&Plan::new(960..1024, 1023, 0, 1, 5)).0, 0);
+    let highest = [
+        (960..1024).collect(),
+        Vec::from_iter((961..1024).chain([0])),
+    ];
+    for ca in highest {
+        assert_eq!(Both::start(&Plan::new(ca, 1023, 0, 1, 5)).0, 0);
+    }
 }
 
 /// Opens on the cell with ARFCN 0, BCC 0 and BS_AG_BLKS_RES 0: the six values and the answer.
@@ -242,13 +256,19 @@ fn page_returns(cell: &library::Cell, imsi: &Imsi, frame: u32, odd: bool) {
         frame,
     } = answer;
     if odd {
-        assert!([CELL_PARAMETER, OUT_OF_RANGE].contains(&refusal), "{answer:?}");
+        assert!(
+            [CELL_PARAMETER, OUT_OF_RANGE].contains(&refusal),
+            "{answer:?}"
+        );
     } else {
         let refusals = [0, CELL_PARAMETER, COMMON_CHANNEL, NO_COMMON_LINE];
         assert!(refusals.contains(&refusal), "{answer:?}");
     }
     if refusal == 0 {
-        assert!([0, 2, 4, 6].contains(&tn) && block <= 8 && frame < HYPERFRAME, "{answer:?}");
+        assert!(
+            [0, 2, 4, 6].contains(&tn) && block <= 8 && frame < HYPERFRAME,
+            "{answer:?}"
+        );
     } else {
         assert_eq!((tn, block, frame), (0, 0, 0), "{answer:?}");
     }

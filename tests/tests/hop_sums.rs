@@ -122,9 +122,9 @@ fn used_with_64(&(n, hsn, frame): &Hop) -> bool {
     n == 64 && Numbers::of(hsn, split(frame).unwrap(), n).m_reduced >= n
 }
 
-/// Entry p is ARFCN 16p.
+/// Entry p is ARFCN 16(p + 1), and the last of 64 is ARFCN 0.
 fn allocation() -> Vec<u16> {
-    (0..64).map(|p| 16 * p).collect()
+    (0..64).map(|p| 16 * (p + 1) % 1024).collect()
 }
 
 /// The hop there, in cell allocations of N and of 64 ARFCNs.

@@ -156,7 +156,9 @@ fn spoil(random: &mut Random, case: &mut Case) {
         match random.below(5) {
             0 => case.ca.clear(),
             1 => case.ca = random.cell_allocation(65),
+            2 if at % 2 == 1 => case.ca.rotate_left(at),
             2 => case.ca.reverse(),
+            3 if at % 2 == 1 => case.ca.insert(at, 0),
             3 => case.ca.insert(at, case.ca[at]),
             _ => *case.ca.last_mut().unwrap() = random.one_of(&[1024, 1025, 2048, u16::MAX]),
         }
@@ -196,49 +198,56 @@ fn of_several_faults_the_lowest_is_told() {
     assert_eq!(seen.len(), 16, "a set of faults left out: {seen:?}");
 }
 
+/// The refusal of a hop over the first entry alone, 0 for accepted.
+fn refusal_of(ca: Vec<u16>) -> u32 {
+    let case = Case {
+        ca,
+        mask: 1,
+        hsn: 0,
+        maio: 0,
+        frame: 0,
+    };
+    case.compare()
+}
+
+/// Each entry too large, as a lower one and exchanged with it; and ARFCN 0 before the last entry.
+fn each_entry_spoilt(right: &[u16]) {
+    let refused = |at: usize, arfcn: u16| {
+        let mut ca = right.to_vec();
+        ca[at] = arfcn;
+        assert_eq!(refusal_of(ca), CELL_ALLOCATION, "{right:?}, {at}: {arfcn}");
+    };
+    for at in 0..right.len() {
+        for large in [1024, 1025, 4096, 32_768, u16::MAX] {
+            refused(at, large);
+        }
+        for lower in 0..at {
+            refused(lower, 0);
+            refused(at, right[lower]);
+            let mut ca = right.to_vec();
+            ca.swap(at, lower);
+            assert_eq!(refusal_of(ca), CELL_ALLOCATION, "{right:?}, {at}, {lower}");
+        }
+    }
+}
+
 #[test]
 fn odd_cell_allocations_are_refused() {
-    let refused = |ca: &[u16]| {
-        let case = Case {
-            ca: ca.to_vec(),
-            mask: 1,
-            hsn: 0,
-            maio: 0,
-            frame: 0,
-        };
-        assert_eq!(case.compare(), CELL_ALLOCATION, "{ca:?}");
-    };
-    refused(&[]);
+    assert_eq!(refusal_of(vec![]), CELL_ALLOCATION);
     for length in 65..200 {
-        refused(&(0..length).collect::<Vec<u16>>());
+        assert_eq!(refusal_of((1..=length).collect()), CELL_ALLOCATION);
+        assert_eq!(
+            refusal_of((1..length).chain([0]).collect()),
+            CELL_ALLOCATION
+        );
+        assert_eq!(refusal_of((0..length).collect()), CELL_ALLOCATION);
     }
     for length in 1..=64 {
-        let right: Vec<u16> = (0..length).map(|i| 16 * i + 15).collect();
-        assert_eq!(
-            Case {
-                ca: right.clone(),
-                mask: 1,
-                hsn: 0,
-                maio: 0,
-                frame: 0
-            }
-            .compare(),
-            0
-        );
-        for at in 0..length as usize {
-            for large in [1024, 1025, 4096, 32_768, u16::MAX] {
-                let mut ca = right.clone();
-                ca[at] = large;
-                refused(&ca);
-            }
-            for lower in 0..at {
-                let mut ca = right.clone();
-                ca[at] = right[lower];
-                refused(&ca);
-                ca.copy_from_slice(&right);
-                ca.swap(at, lower);
-                refused(&ca);
-            }
+        let others = (0..length - 1).map(|i| 16 * i + 15);
+        for last in [16 * length - 1, 0] {
+            let right: Vec<u16> = others.clone().chain([last]).collect();
+            assert_eq!(refusal_of(right.clone()), 0, "{right:?}");
+            each_entry_spoilt(&right);
         }
     }
 }
@@ -395,7 +404,11 @@ fn position_takes_every_length() {
             u32::MAX,
         ] {
             let refusal = case.compare_position(length);
-            assert_eq!(refusal == CELL_ALLOCATION, length == 0 || length > 64, "{length}, {case:?}");
+            assert_eq!(
+                refusal == CELL_ALLOCATION,
+                length == 0 || length > 64,
+                "{length}, {case:?}"
+            );
             seen.insert(refusal);
         }
         assert_eq!(case.compare_position(0), CELL_ALLOCATION);

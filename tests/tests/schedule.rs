@@ -178,9 +178,13 @@ fn the_gates_script_meets_everything() {
     assert!(input.iter().any(|&byte| byte > 127) && input.contains(&0));
 }
 
-/// Whether the ARFCN, MAI and position of an accepted hop, line or who belong together, by the mask
-/// that it is about. Other answers have none.
-fn belongs(cell: &Cell, command: &Command, answer: &str) -> Option<bool> {
+/// The cell allocation and the mask that an accepted hop, line or who is about, and the ARFCN, MAI
+/// and position of its answer. Other answers have none.
+fn tuned<'a>(
+    cell: &'a Cell,
+    command: &'a Command,
+    answer: &str,
+) -> Option<(&'a [u16], u64, HopAnswer)> {
     let words = answer.strip_prefix("ok ")?.split_whitespace();
     let words: Vec<&str> = words.collect();
     let number = |at: usize| words[at].parse::<u32>().expect("a number");
@@ -196,7 +200,7 @@ fn belongs(cell: &Cell, command: &Command, answer: &str) -> Option<bool> {
         mai: number(at + 1),
         position: number(at + 2),
     };
-    Some(placed::hop(ca, mask, answer))
+    Some((ca, mask, answer))
 }
 
 #[test]
@@ -207,13 +211,55 @@ fn the_gates_hops_are_placed() {
         let Ok(command) = read(&line) else { continue };
         let answer = String::from_utf8_lossy(&answer);
         let line = String::from_utf8_lossy(&line);
-        if let Some(belongs) = belongs(&session.cell, &command, &answer) {
-            assert!(belongs, "{line}: {answer}");
+        if let Some((ca, mask, told)) = tuned(&session.cell, &command, &answer) {
+            assert!(placed::hop(ca, mask, told), "{line}: {answer}");
             count += 1;
         }
     }
     println!("{count} answers");
     assert!(count > 500);
+}
+
+/// What a command had to do with a list of ARFCN 0 and others: the list was accepted or refused, a
+/// line was on ARFCN 0, or nobody was.
+fn arfcn_0(cell: &Cell, command: &Command, answer: &str) -> Option<(&'static str, &'static str)> {
+    let told = tuned(cell, command, answer).map(|(.., told)| told);
+    let on_it = told.is_some_and(|told| told.arfcn == 0 && told.position > 0);
+    let listed = |ca: &[u16]| (2..=64).contains(&ca.len()) && ca.contains(&0);
+    match (command, answer.trim_end()) {
+        (Command::Hop(.., ca), "refused 1") if listed(ca) => Some(("hop", "refused")),
+        (Command::Start(plan), "refused 1") if listed(&plan.ca) => Some(("start", "refused")),
+        (Command::Start(plan), "ok") if listed(&plan.ca) => Some(("start", "accepted")),
+        (Command::Who([_, 0, ..]), "ok nobody") if listed(&cell.plan.ca) => Some(("who", "nobody")),
+        (Command::Hop(..), _) if on_it => Some(("hop", "on it")),
+        (Command::Line(_), _) if on_it => Some(("line", "on it")),
+        (Command::Who(_), _) if on_it => Some(("who", "on it")),
+        _ => None,
+    }
+}
+
+#[test]
+fn the_gates_script_has_arfcn_0() {
+    let (mut session, mut met) = (Session::default(), BTreeMap::<_, usize>::new());
+    for Asked { line, answer } in script::gate().asked {
+        session.answer(&line);
+        let Ok(command) = read(&line) else { continue };
+        let answer = String::from_utf8_lossy(&answer);
+        if let Some(what) = arfcn_0(&session.cell, &command, &answer) {
+            *met.entry(what).or_default() += 1;
+        }
+    }
+    println!("{met:?}");
+    let wanted = [
+        ("hop", "on it"),
+        ("hop", "refused"),
+        ("line", "on it"),
+        ("start", "accepted"),
+        ("start", "refused"),
+        ("who", "nobody"),
+        ("who", "on it"),
+    ];
+    assert!(met.keys().eq(&wanted) && met.values().all(|&n| n > 2));
 }
 
 #[test]

@@ -267,10 +267,11 @@ fn small_pieces() {
     );
 }
 
-/// All 64 lines in one timeslot, each on an ARFCN of its own.
+/// All 64 lines in one timeslot, each on an ARFCN of its own, the last on ARFCN 0.
 #[test]
 fn a_wide_table() {
-    let ca: String = (0..64).map(|arfcn| format!(" {}", 16 * arfcn)).collect();
+    let ca = (1..=64).map(|place| format!(" {}", 16 * place % 1024));
+    let ca: String = ca.collect();
     let mut input = format!("start 0 7 7 9{ca}\n");
     for line in 0..64 {
         let (mask, combination) = (1u64 << line, [1, 2, 7][line % 3]);
@@ -278,6 +279,8 @@ fn a_wide_table() {
         input += &format!("seize {line} 0 {}\n", 65_535 - line);
     }
     input += "table 5 0 2715600 150\ntable 5 1 40 70\nline 63 0 0\n";
+    let answers = String::from_utf8(run(input.as_bytes())).unwrap();
+    assert!(!answers.contains("refused"), "a call was refused");
     compare(input.as_bytes());
 }
 

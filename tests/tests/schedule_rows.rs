@@ -141,20 +141,65 @@ fn hop() {
     ask(HOP);
 }
 
-/// CA is 0 to 63, or in the last row 0 to 64.
+/// CA is 1 to 63 and 0. In the last rows 0 is before the others, 64 is behind it or before it, or 0
+/// is there twice.
 #[test]
 fn hop_over_64_arfcns() {
-    let ca: String = (0..64).map(|arfcn| format!(" {arfcn}")).collect();
+    let others: String = (1..64).map(|arfcn| format!(" {arfcn}")).collect();
+    let ca = format!("{others} 0");
     ask_made(&[
-        made(format!("hop 9223372036854775808 0 0 0{ca}"), "ok 63 0 63"),
-        made(format!("hop 4294967296 0 0 7{ca}"), "ok 32 0 32"),
-        made(format!("hop 18446744073709551615 0 63 1{ca}"), "ok 0 0 0"),
-        made(format!("hop 18446744073709551615 0 9 3{ca}"), "ok 12 12 12"),
-        made(format!("hop 9223372036854775818 0 2 0{ca}"), "ok 63 2 63"),
-        made(format!("hop 9223372036854775818 0 2 2{ca}"), "ok 3 1 3"),
+        made(format!("hop 9223372036854775808 0 0 0{ca}"), "ok 0 0 63"),
+        made(format!("hop 4294967296 0 0 7{ca}"), "ok 33 0 32"),
+        made(format!("hop 18446744073709551615 0 63 1{ca}"), "ok 1 0 0"),
+        made(format!("hop 18446744073709551615 0 9 3{ca}"), "ok 13 12 12"),
+        made(format!("hop 18446744073709551615 0 60 3{ca}"), "ok 0 63 63"),
+        made(format!("hop 9223372036854775818 0 2 0{ca}"), "ok 0 2 63"),
+        made(format!("hop 9223372036854775818 0 2 2{ca}"), "ok 4 1 3"),
         made(format!("hop 18446744073709551615 0 64 1{ca}"), "refused 5"),
+        made(format!("hop 1 0 0 0 0{others}"), "refused 1"),
         made(format!("hop 1 0 0 0{ca} 64"), "refused 1"),
+        made(format!("hop 1 0 0 0{others} 64 0"), "refused 1"),
+        made(format!("hop 1 0 0 0{ca} 0"), "refused 1"),
     ]);
+}
+
+/// Bit 2 of a mask stands for ARFCN 0, which is C0 of the first cell.
+const ARFCN_0: &[Row] = &[
+    ("hop 7 0 0 0 5 10 0", "ok 5 0 0"),
+    ("hop 7 0 0 1 5 10 0", "ok 10 1 1"),
+    ("hop 7 0 0 2 5 10 0", "ok 0 2 2"),
+    ("hop 6 0 0 0 5 10 0", "ok 10 0 1"),
+    ("hop 6 0 0 1 5 10 0", "ok 0 1 2"),
+    ("hop 4 0 0 1 5 10 0", "ok 0 0 2"),
+    ("hop 1 0 0 0 0", "ok 0 0 0"),
+    ("hop 1 0 0 0 0 5", "refused 1"),
+    ("hop 1 0 0 0 5 0 10", "refused 1"),
+    ("hop 1 0 0 0 5 0 0", "refused 1"),
+    ("start 0 7 2 9 5 10 0", "ok"),
+    ("open 0 0 1 0 0 4 7", "refused 8"),
+    ("open 0 0 8 0 0 4 7", "refused 4"),
+    ("open 0 0 4 0 0 4 7", "ok"),
+    ("open 9 1 6 0 0 1 0", "ok"),
+    ("seize 9 0 3", "ok"),
+    ("line 0 12 0", "ok 0 0 2 CCCH 0 0 1 0"),
+    ("line 9 12 0", "ok 10 0 1 idle"),
+    ("line 9 25 0", "ok 0 1 2 SACCH 0 3 0 0"),
+    ("who 1 0 25 0", "ok 9 0 1 2 SACCH 0 3 0 0"),
+    ("who 1 0 12 0", "ok nobody"),
+    ("start 5 7 2 9 5 10 0", "ok"),
+    ("open 0 0 4 0 0 4 7", "refused 8"),
+    ("open 0 0 1 0 0 4 7", "ok"),
+    ("start 0 7 2 9 0 5", "refused 1"),
+    ("start 5 7 2 9 5 0 10", "refused 1"),
+    ("start 5 7 2 9 10 5 0", "refused 1"),
+    ("start 5 7 2 9 1024 0", "refused 1"),
+    ("start 0 7 2 9 5 10", "refused 2"),
+    ("start 0 7 2 9 0", "ok"),
+];
+
+#[test]
+fn arfcn_0() {
+    ask(ARFCN_0);
 }
 
 const MAP: &[Row] = &[

@@ -1,7 +1,7 @@
 -- Laws of `all_below`, `any_below`, `least` and `first_below`. Assumes nothing.
 use Prim.Native.Nat.{ℕ, zero, suc, ◌<◌}
-use mathlib.Core.Path.{◌≡◌, refl, sym, ap, ◌∙◌, subst}
-use mathlib.Core.Bool.{Bool, true, false, cond}
+use mathlib.Core.Path.{◌≡◌, refl, sym, ap, ap₂, ◌∙◌, subst}
+use mathlib.Core.Bool.{Bool, true, false, ◌&&◌, cond}
 use mathlib.Core.Logic.{◌⊎◌, inl, inr, ⊎_elim}
 use mathlib.Core.Option.{Option, none, some}
 use native.Mathlib.Nat.{not-suc-le-zero, le_of_suc-le-suc, eq-or-lt_of_le, le_refl}
@@ -28,6 +28,12 @@ module _ (test : ℕ → Bool) where
   unfolding all_below
   all_of zero f = refl
   all_of (suc n) f = and_both (all_of n (λ k h. f k (omega arith))) (f n (omega arith))
+
+  -- two tests that agree below n
+  pub all_agree : (other : ℕ → Bool) (n : ℕ) → ((k : ℕ) → k < n → test k ≡ other k) → all_below test n ≡ all_below other n
+  unfolding all_below
+  all_agree other zero f = refl
+  all_agree other (suc n) f = ap₂ (λ (a b : Bool). a && b) (all_agree other n (λ k l. f k (omega arith))) (f n (omega arith))
 
   pub any_at : (n k : ℕ) → k < n → test k ≡ true → any_below test n ≡ true
   unfolding any_below
@@ -75,6 +81,9 @@ module _ (test : ℕ → Bool) where
       go f false e = inr (λ k h. ⊎_elim (λ q. ap test q ∙ e) (f k) (last k n h))
 
   -- where some number below n passes, there is a first
+  pub some_first : (n : ℕ) → any_below test n ≡ true → First n
+  some_first n e = ⊎_elim (λ w. w) (λ f. not_both e (any_none n f)) (first_or_none n)
+
   pub first_of : (n i : ℕ) → i < n → test i ≡ true → First n
   first_of n i h t = ⊎_elim (λ w. w) (λ f. not_both t (f i h)) (first_or_none n)
 

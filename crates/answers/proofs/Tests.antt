@@ -64,6 +64,11 @@ refute false f = refl
 pub not_both : {A : Type 0} {b : Bool} → b ≡ true → b ≡ false → A
 not_both {b} p q = absurd (subst T (sym p ∙ q) tt)
 
+-- equal, if each follows from the other
+pub same_test : (a b : Bool) → (a ≡ true → b ≡ true) → (b ≡ true → a ≡ true) → a ≡ b
+same_test true b f g = sym (f refl)
+same_test false b f g = sym (refute b (λ e. not_both (g e) refl))
+
 pub eqb_sym : (a b : ℕ) → eqb a b ≡ eqb b a
 eqb_sym a b = go (eqb a b) refl
   where

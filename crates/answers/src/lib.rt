@@ -4,7 +4,7 @@
 // number and which values each case stands for.
 #[derive(Clone, Copy, Debug, PartialEq, Eq)]
 pub enum Refusal {
-    // 1: the cell allocation is not 1 to 64 ARFCNs, strictly ascending.
+    // 1: the cell allocation is not 1 to 64 ARFCNs, each once and in the order 1, 2, .., 1023, 0.
     CellAllocation,
     // 2: C0 is not in the cell allocation, or BCC, AG or P is out of range.
     CellParameter,

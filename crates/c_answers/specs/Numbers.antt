@@ -7,6 +7,7 @@ use Rattle.clock.specs.declared.Frame.{Frame}
 use Rattle.clock.specs.Clock.{prime_of}
 use Rattle.maps.specs.Channels.{Standing}
 use Rattle.groups.specs.declared.PagingBlock.{PagingBlock}
+use Rattle.hops.specs.Hopping.{no_tuning}
 use Rattle.hops.specs.declared.Selection.{Selection}
 use Rattle.hops.specs.declared.Tuning.{Tuning}
 use Rattle.slots.specs.declared.Found.{Found}
@@ -60,10 +61,6 @@ join_numbers (accepted fn) = record { refusal = 0; frame = fn }
 abbrev pub position_numbers : Outcome Selection → TdmaPosition
 position_numbers (refused r) = record { refusal = r.number; position = 0; mai = 0 }
 position_numbers (accepted s) = record { refusal = 0; position = s.position; mai = s.mai }
-
--- where there is nothing to be tuned to: a refusal, and nobody
-abbrev pub no_tuning : Tuning
-no_tuning = record { arfcn = 0; mai = 0; position = 0 }
 
 abbrev pub hop_fields : ℕ → Tuning → TdmaHop
 hop_fields refusal t = record { refusal = refusal; arfcn = t.arfcn; mai = t.mai; position = t.position }

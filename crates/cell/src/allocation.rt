@@ -1,6 +1,6 @@
 // The search for an ARFCN in a cell allocation.
 ghost use Rattle.std.specs.Prelude.{◌≡◌};
-ghost use Rattle.rules.specs.Calls.{lists};
+ghost use Rattle.hops.specs.Allocation.{lists};
 
 // Some entry of the list is the ARFCN.
 pub(crate) fn lists(ca: &[u16], arfcn: u32) -> bool

@@ -1,1 +1,2 @@
 mod Ascending
+mod LastZero

@@ -2,34 +2,33 @@
 use Prim.Native.Nat.{ℕ, ◌+◌, ◌*◌, ◌-◌, ◌/◌, ◌%◌, ◌^◌, ◌≤◌, ◌<◌}
 use mathlib.Core.Path.{◌≡◌, refl, sym, ap, ◌∙◌, subst}
 use mathlib.Core.Bool.{Bool, true, ◌&&◌, ◌||◌, cond}
-use native.Mathlib.Nat.{mod-lt, mod-eq_of_lt, add-mod_right, mod-mod_of_dvd, dvd-mul_left}
+use native.Mathlib.Nat.{lt_trans, mod-lt, mod-eq_of_lt, add-mod_right, mod-mod_of_dvd, dvd-mul_left}
 use native.Mathlib.Omega.{arith}
 use lib.Bits.{bit_and, and_mask}
 use lib.Count as Count
-use lib.Dec.{ltb, leb, eqb}
+use lib.Dec.{ltb, eqb, lit<}
 use lib.ListN.{get_or}
 use lib.Pow.{pow_pos}
-use borrow.Author.Tests.{lt-ltb, le-ltb, ltb-true, leb-true, eqb-true, ne_eqb}
+use borrow.Author.Tests.{lt-ltb, le-ltb, ltb-true, eqb-true, ne_eqb}
 use Rattle.answers.specs.Search.{all_below, least}
 use Rattle.answers.proofs.Search.{all_at}
 use Rattle.answers.proofs.Tests.{and_left, and_right, or_rest}
 use Rattle.clock.specs.declared.Frame.{Frame}
 use Rattle.hops.specs.Hopping.{rntable, nbin, M, M', T', S}
-use Rattle.hops.proofs.Mai.{rn_le}
+use Rattle.hops.proofs.Mai.{rn_le, nbin_twice}
 
 -- ---- NBIN
 
--- N has fewer than eight leading zeros, what they leave of a byte's ones is NBIN ones, and 2 to the power of NBIN is at most twice N, as fewer bits
--- would not do: one test over the 65 numbers
+-- N has fewer than eight leading zeros, and what they leave of a byte's ones is NBIN ones: one test over the 65 numbers
 fits : ℕ → Bool
-fits n = eqb n 0 || (ltb (Count.count_leading_zeros 8 n) 8 && (eqb (255 / 2 ^ Count.count_leading_zeros 8 n) (2 ^ nbin n - 1) && leb (2 ^ nbin n) (n + n)))
+fits n = eqb n 0 || (ltb (Count.count_leading_zeros 8 n) 8 && eqb (255 / 2 ^ Count.count_leading_zeros 8 n) (2 ^ nbin n - 1))
 
 all_fit : all_below fits 65 ≡ true
 unfolding fits nbin least all_below Count.count_leading_zeros
 all_fit = refl
 
 module _ (n : ℕ) (p : 0 < n) (h : n ≤ 64) where
-  tested : (ltb (Count.count_leading_zeros 8 n) 8 && (eqb (255 / 2 ^ Count.count_leading_zeros 8 n) (2 ^ nbin n - 1) && leb (2 ^ nbin n) (n + n))) ≡ true
+  tested : (ltb (Count.count_leading_zeros 8 n) 8 && eqb (255 / 2 ^ Count.count_leading_zeros 8 n) (2 ^ nbin n - 1)) ≡ true
   unfolding fits
   tested =
       let t : fits n ≡ true = all_at fits 65 all_fit n (omega arith) in
@@ -39,12 +38,12 @@ module _ (n : ℕ) (p : 0 < n) (h : n ≤ 64) where
   leading_lt = ltb-true _ _ (and_left _ _ tested)
 
   pub masked : (x : ℕ) → bit_and x (255 / 2 ^ Count.count_leading_zeros 8 n) ≡ x % 2 ^ nbin n
-  masked x = ap (bit_and x) (eqb-true _ _ (and_left _ _ (and_right (ltb (Count.count_leading_zeros 8 n) 8) _ tested))) ∙ and_mask x (nbin n)
+  masked x = ap (bit_and x) (eqb-true _ _ (and_right (ltb (Count.count_leading_zeros 8 n) 8) _ tested)) ∙ and_mask x (nbin n)
 
   -- what the code has of it as `r`
   pub reduced_lt : (x r : ℕ) → r ≡ x % 2 ^ nbin n → r < n + n
   reduced_lt x r e =
-      let l = leb-true _ _ (and_right (eqb (255 / 2 ^ Count.count_leading_zeros 8 n) (2 ^ nbin n - 1)) _ (and_right (ltb (Count.count_leading_zeros 8 n) 8) _ tested)) in
+      let l = nbin_twice n (lt_trans (let q : n < 65 = omega arith in q) (lit< tt)) p in
       let m = mod-lt x (pow_pos (nbin n)) in
       omega arith
 

@@ -4,20 +4,21 @@ use mathlib.Core.Path.{◌≡◌, refl, sym, ap, ◌∙◌, subst}
 use mathlib.Core.Bool.{Bool, true, false, not, ◌&&◌}
 use mathlib.Core.List.{List}
 use mathlib.Core.Logic.{◌⊎◌, inl, inr, ⊎_elim}
-use native.Mathlib.Nat.{mod-lt, mod-eq_of_lt, mod-add-mod, add-mod_right, not-suc-le-zero, lt_trans, eq-or-lt_of_le, le_of_suc-le-suc}
+use native.Mathlib.Nat.{mod-lt, mod-eq_of_lt, mod-add-mod, add-mod_right, not-suc-le-zero, eq-or-lt_of_le, le_of_suc-le-suc}
 use native.Mathlib.Decide.{dec_lt}
 use native.Mathlib.Omega.{arith}
 use lib.Dec.{ltb, eqb, eqb-suc-zero}
 use lib.ListN.{length, get_or}
-use borrow.Author.Tests.{ltb-true, ltb-false, eqb-true, eqb-false, eq-eqb, not-true, not-false}
+use borrow.Author.Tests.{ltb-false, eqb-true, eqb-false, eq-eqb, not-true, not-false}
 use Rattle.answers.specs.Ranges.{no_arfcn, no_size}
 use Rattle.answers.proofs.Search.{all_at, any_at}
-use Rattle.answers.proofs.Tests.{and_left, and_right, and_both, and_rest, or_right, or_rest, not_both, refute, eqb_sym}
+use Rattle.answers.proofs.Tests.{and_left, and_right, and_both, and_rest, or_right, or_none_left, or_rest, not_both, refute, eqb_sym}
 use Rattle.clock.specs.Clock.{parts_of}
 use Rattle.hops.specs.Masks.{bit, contains, ones, ones_below, one_at_or_above, share_one}
 use Rattle.hops.specs.Allocation.{in_place, is_allocation, precedes}
 use Rattle.hops.specs.Hopping.{S, mai_of, line_position, line_arfcn}
 use Rattle.hops.specs.Clash.{Physical, clash}
+use Rattle.hops.proofs.Order.{Before, before, before_trans, before_irreflexive}
 use Rattle.hops.proofs.Bits.{OneAt, position_one, bit_contains, above_bit, share_sym}
 use Rattle.hops.proofs.Mai.{mai_lt, mai_cyclic, mai_random}
 
@@ -102,7 +103,10 @@ module _ (ca : List ℕ) (h : is_allocation ca ≡ true) where
   pub at_most_64 : length ca ≤ 64
   at_most_64 = ltb-false _ _ (refute (ltb 64 (length ca)) (λ t. not_both (or_right (eqb (length ca) 0) t) sized))
 
-  placed : (k : ℕ) → k < length ca → in_place ca k ≡ true
+  pub at_least_1 : 1 ≤ length ca
+  at_least_1 = let z = eqb-false (length ca) 0 (or_none_left (eqb (length ca) 0) _ sized) in omega (arith, z)
+
+  pub placed : (k : ℕ) → k < length ca → in_place ca k ≡ true
   unfolding is_allocation
   placed k l = all_at (in_place ca) (length ca) (and_right (not (no_size (length ca))) _ h) k l
 
@@ -110,25 +114,26 @@ module _ (ca : List ℕ) (h : is_allocation ca ≡ true) where
   pub entry_arfcn : (k : ℕ) → k < length ca → get_or ca k 0 < 1024
   entry_arfcn k l = let e = ltb-false _ _ (not-true _ (and_left (not (no_arfcn (get_or ca k 0))) _ (placed k l))) in omega arith
 
-  next : (k : ℕ) → suc k < length ca → get_or ca k 0 < get_or ca (suc k) 0
+  next : (k : ℕ) → suc k < length ca → Before (get_or ca k 0) (get_or ca (suc k) 0)
   next k l =
       let order : precedes (get_or ca (suc k - 1) 0) (get_or ca (suc k) 0) ≡ true =
       or_rest (eqb (suc k) 0) _ (eqb-suc-zero k) (and_right (not (no_arfcn (get_or ca (suc k) 0))) _ (placed (suc k) l)) in
-      subst (λ (i : ℕ). get_or ca i 0 < get_or ca (suc k) 0) (let e : suc k - 1 ≡ k = omega arith in e) (ltb-true _ _ order)
+      subst (λ (i : ℕ). Before (get_or ca i 0) (get_or ca (suc k) 0)) (let e : suc k - 1 ≡ k = omega arith in e) (before _ _ order)
 
-  pub ascends : (i j : ℕ) → i < j → j < length ca → get_or ca i 0 < get_or ca j 0
-  ascends i zero l r = absurd (not-suc-le-zero l)
-  ascends i (suc j) l r =
-      ⊎_elim (λ (e : i ≡ j). subst (λ (k : ℕ). get_or ca k 0 < get_or ca (suc j) 0) (sym e) (next j r))
-      (λ (b : i < j). lt_trans (ascends i j b (omega arith)) (next j r)) (eq-or-lt_of_le (le_of_suc-le-suc l))
+  -- an entry comes before each later one
+  pub comes_before : (i j : ℕ) → i < j → j < length ca → Before (get_or ca i 0) (get_or ca j 0)
+  comes_before i zero l r = absurd (not-suc-le-zero l)
+  comes_before i (suc j) l r =
+      ⊎_elim (λ (e : i ≡ j). subst (λ (k : ℕ). Before (get_or ca k 0) (get_or ca (suc j) 0)) (sym e) (next j r))
+      (λ (b : i < j). before_trans _ _ _ (comes_before i j b (omega arith)) (next j r)) (eq-or-lt_of_le (le_of_suc-le-suc l))
 
   -- different positions have different ARFCNs
   pub entry_apart : (i j : ℕ) → i < length ca → j < length ca → get_or ca i 0 ≡ get_or ca j 0 → i ≡ j
   entry_apart i j hi hj e = go (dec_lt i j) (dec_lt j i)
     where
       go : Dec (i < j) → Dec (j < i) → i ≡ j
-      go (yes l) d = absurd (let a = ascends i j l hj in omega arith)
-      go (no l) (yes r) = absurd (let a = ascends j i r hi in omega arith)
+      go (yes l) d = absurd (before_irreflexive _ (subst (λ (a : ℕ). Before a (get_or ca j 0)) e (comes_before i j l hj)))
+      go (no l) (yes r) = absurd (before_irreflexive _ (subst (Before (get_or ca j 0)) e (comes_before j i r hi)))
       go (no l) (no r) = omega arith
 
 -- ---- two lines

@@ -1,4 +1,8 @@
+pub mod Order
+pub mod Sorted
 pub mod Apart
+pub mod Handset
+pub mod MobileList
 pub mod Bits
 pub mod Causes
 pub mod Drill
@@ -6,4 +10,5 @@ pub mod Mai
 pub mod Borders
 pub mod Claims
 pub mod Placed
+pub mod Former
 pub mod Sums

@@ -1,12 +1,14 @@
 -- The laws of NBIN, RNTABLE, S and MAI. Assumes nothing.
-use Prim.Native.Nat.{ℕ, ◌+◌, ◌%◌, ◌^◌, ◌≤◌, ◌<◌}
+use Prim.Native.Nat.{ℕ, zero, suc, ◌+◌, ◌%◌, ◌^◌, ◌≤◌, ◌<◌}
 use mathlib.Core.Path.{◌≡◌, refl, sym, ap, subst}
 use mathlib.Core.Bool.{Bool, true, false, cond}
-use native.Mathlib.Nat.{mod-lt}
+use native.Mathlib.Decide.{dec_lt}
+use native.Mathlib.Nat.{mod-lt, pow-suc}
 use native.Mathlib.Omega.{arith}
 use lib.Bits.{bit_xor, xor_lt}
 use lib.Dec.{ltb, eqb, lit<}
 use lib.ListN.{get_or}
+use lib.Pow.{pow_mono}
 use borrow.Author.Tests.{lt-ltb, ltb-true, ltb-false, eq-eqb, ne_eqb}
 use Rattle.answers.proofs.Search.{First, first_of, least_first}
 use Rattle.answers.proofs.Tables.{every, at_most}
@@ -41,6 +43,23 @@ module _ (n : ℕ) (h : n < 2 ^ 63) where
 
   pub nbin_least : (k : ℕ) → k < nbin n → 2 ^ k ≤ n
   nbin_least k l = ltb-false _ _ (width.none k (subst (λ (m : ℕ). k < m) width_is l))
+
+  -- 2 to the power of NBIN is at most any power of two above N, and at most twice N
+  pub nbin_at_most : (k : ℕ) → n < 2 ^ k → 2 ^ nbin n ≤ 2 ^ k
+  nbin_at_most k l = go (dec_lt k (nbin n))
+    where
+      go : Dec (k < nbin n) → 2 ^ nbin n ≤ 2 ^ k
+      go (yes b) = absurd (let a = nbin_least k b in omega arith)
+      go (no b) = pow_mono (omega arith)
+
+  pub nbin_twice : 0 < n → 2 ^ nbin n ≤ n + n
+  nbin_twice p = go (nbin n) refl
+    where
+      go : (k : ℕ) → nbin n ≡ k → 2 ^ nbin n ≤ n + n
+      go zero e = absurd (let r : n < 2 ^ zero = subst (λ (k : ℕ). n < 2 ^ k) e nbin_room in omega arith)
+      go (suc k) e =
+          let l = nbin_least k (let q : k < nbin n = omega arith in q) in
+          subst (λ (m : ℕ). 2 ^ m ≤ n + n) (sym e) (let q = pow-suc 2 k in omega arith)
 
 -- ---- S
 

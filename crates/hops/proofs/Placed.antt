@@ -12,6 +12,7 @@ use Rattle.hops.specs.Allocation.{is_allocation}
 use Rattle.hops.specs.Hopping.{mai_of, line_position, line_tuning, hop_causes, hop_of}
 use Rattle.hops.specs.Placed.{Placed, HopsArePlaced}
 use Rattle.hops.proofs.Bits.{OneAt}
+use Rattle.hops.proofs.MobileList.{as_read}
 use Rattle.hops.proofs.Apart.{entry_apart, line_one, line_within}
 use Rattle.hops.proofs.Claims.{within, maio_below}
 use Rattle.hops.proofs.Mai.{mai_lt}
@@ -27,6 +28,7 @@ line_placed ca m hsn maio fn a w h =
       one = o.one;
       rank = o.rank;
       below = mai_lt (ones m) hsn maio fn (omega arith);
+      read = as_read ca m a (line_tuning ca m hsn maio fn) w there refl o.one o.rank;
     }
   where
     o : OneAt m (mai_of (ones m) hsn maio fn) (line_position m hsn maio fn)

@@ -1,18 +1,17 @@
 -- specs/Sums.antt: T2 is at most 25, an entry of RNTABLE at most 127, T3 at most 50, and NBIN bits are at most 7, fewer below N = 64. Assumes nothing.
 use Prim.Native.Nat.{ℕ, ◌+◌, ◌/◌, ◌%◌, ◌^◌, ◌≤◌, ◌<◌}
 use mathlib.Core.Path.{◌≡◌, refl}
-use native.Mathlib.Nat.{mod-lt, mod-le, le_antisymm}
+use native.Mathlib.Nat.{lt_trans, mod-lt, mod-le, le_antisymm}
 use native.Mathlib.Omega.{arith}
 use lib.Bits.{bit_xor}
-use lib.Dec.{ltb, leb, lit<, lit≤}
+use lib.Dec.{ltb, lit<, lit≤}
 use lib.ListN.{length, get_or}
 use lib.Pow.{pow_pos}
-use borrow.Author.Tests.{ltb-true, ltb-false, leb-true}
+use borrow.Author.Tests.{ltb-true, ltb-false}
 use Rattle.answers.specs.Claims.{NoCause}
 use Rattle.answers.specs.Outcome.{any_of, decide}
 use Rattle.answers.specs.Search.{all_below, any_below, least}
 use Rattle.answers.proofs.Decide.{accepted_has_none}
-use Rattle.answers.proofs.Search.{all_at}
 use Rattle.answers.proofs.Tests.{refute}
 use Rattle.clock.specs.Clock.{parts_of}
 use Rattle.hops.specs.Masks.{ones_below, position_at, one_at_or_above}
@@ -22,16 +21,14 @@ use Rattle.hops.specs.Borders.{arfcns, all_ones}
 use Rattle.hops.specs.Sums.{RandomHop, numbers_of, Sums}
 use Rattle.hops.proofs.Bits.{ones_at_most}
 use Rattle.hops.proofs.Claims.{maio_below}
-use Rattle.hops.proofs.Mai.{rn_le, s_lt}
+use Rattle.hops.proofs.Mai.{rn_le, nbin_at_most, s_lt}
 
--- 2 to the power of NBIN, for N up to 64 and for N below 64: two tests over the numbers
+-- 2 to the power of NBIN, for N up to 64 and for N below 64
 room_64 : (n : ℕ) → n ≤ 64 → 2 ^ nbin n ≤ 128
-unfolding nbin least all_below
-room_64 n h = leb-true _ _ (all_at (λ (k : ℕ). leb (2 ^ nbin k) 128) 65 refl n (omega arith))
+room_64 n h = nbin_at_most n (lt_trans (let q : n < 65 = omega arith in q) (lit< tt)) 7 (omega arith)
 
 room_below_64 : (n : ℕ) → n < 64 → 2 ^ nbin n ≤ 64
-unfolding nbin least all_below
-room_below_64 n h = leb-true _ _ (all_at (λ (k : ℕ). leb (2 ^ nbin k) 64) 64 refl n h)
+room_below_64 n h = nbin_at_most n (lt_trans h (lit< tt)) 6 h
 
 -- of every such hop
 module _ (h : RandomHop) where
@@ -64,18 +61,18 @@ module _ (h : RandomHop) where
 
 -- FN 25 is (0, 25, 25), and HSN 7 reads entry 32 of RNTABLE, which is 127
 m_witness : RandomHop
-unfolding decide any_of all_below any_below least ones_below position_at one_at_or_above is_allocation rntable nbin S mai_of hop_of arfcns
+unfolding decide any_of all_below any_below least ones_below position_at one_at_or_above is_allocation rntable nbin S mai_of hop_of
 m_witness =
-    record { ca = arfcns 64; mask = all_ones; hsn = 7; maio = 0; fn = 25; tuning = record { arfcn = 24; mai = 24; position = 24 }; answer = refl; random = lit< tt }
+    record { ca = arfcns 64; mask = all_ones; hsn = 7; maio = 0; fn = 25; tuning = record { arfcn = 25; mai = 24; position = 24 }; answer = refl; random = lit< tt }
 
 -- FN 152 is (0, 22, 50), and HSN 57 reads entry 107, which is 105: M' is 127 with N = 64
 sum_witness : RandomHop
-unfolding decide any_of all_below any_below least ones_below position_at one_at_or_above is_allocation rntable nbin S mai_of hop_of arfcns
+unfolding decide any_of all_below any_below least ones_below position_at one_at_or_above is_allocation rntable nbin S mai_of hop_of
 sum_witness =
-    record { ca = arfcns 64; mask = all_ones; hsn = 57; maio = 0; fn = 152; tuning = record { arfcn = 49; mai = 49; position = 49 }; answer = refl; random = lit< tt }
+    record { ca = arfcns 64; mask = all_ones; hsn = 57; maio = 0; fn = 152; tuning = record { arfcn = 50; mai = 49; position = 49 }; answer = refl; random = lit< tt }
 
 pub sums : Sums
-unfolding m_witness sum_witness decide any_of all_below any_below least ones_below position_at one_at_or_above is_allocation rntable nbin S mai_of hop_of arfcns
+unfolding m_witness sum_witness decide any_of all_below any_below least ones_below position_at one_at_or_above is_allocation rntable nbin S mai_of hop_of
 sums =
     record {
       m_at_most = λ h. let e = entry_at_most h in omega arith;

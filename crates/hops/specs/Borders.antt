@@ -1,15 +1,15 @@
 -- Both sides of each border of hopping, with the exact answers or refusals; proofs/Borders.antt computes them. Assumes nothing.
-use Rattle.std.specs.Prelude.{ℕ, zero, suc, ◌≡◌, true, false, List, [], ◌∷◌, ◌++◌, map}
+use Rattle.std.specs.Prelude.{ℕ, ◌≡◌, true, false, List, [], ◌∷◌, ◌++◌, map, replicate}
+use Rattle.std.specs.List.{range_with_len}
 use Rattle.answers.specs.Outcome.{Outcome, refused, accepted, alone}
 use Rattle.hops.specs.Hopping.{nbin, position_of, hop_of}
 use Rattle.hops.specs.Clash.{Physical, clash}
 use Rattle.hops.specs.declared.Selection.{Selection}
 use Rattle.hops.specs.declared.Tuning.{Tuning}
 
--- the ARFCNs 0, 1, 2, .., so many of them
-unfoldable pub arfcns : ℕ → List ℕ
-arfcns zero = []
-arfcns (suc n) = arfcns n ++ (n ∷ [])
+-- the ARFCNs 1, 2, 3, .., so many of them
+abbrev pub arfcns : ℕ → List ℕ
+arfcns count = range_with_len 1 count
 
 -- the mask with all 64 ones, and the one with the highest alone
 abbrev pub all_ones : ℕ
@@ -25,6 +25,10 @@ masked size mask = position_of size mask 0 0 0
 -- CA and mask have 64 positions, and MAIO is 0
 abbrev pub hopped : ℕ → ℕ → Outcome Selection
 hopped hsn fn = position_of 64 all_ones hsn 0 fn
+
+-- HSN 0 and MAIO 0 in a cell with CA 5, 10, 0, by mask and frame
+abbrev pub with_zero : ℕ → ℕ → Outcome Tuning
+with_zero mask fn = hop_of (5 ∷ 10 ∷ 0 ∷ []) mask 0 0 fn
 
 -- an accepted position: MAI and the position; of the mask with all ones the two are equal
 abbrev pub at : ℕ → ℕ → Outcome Selection
@@ -43,10 +47,20 @@ line tn mask hsn maio = record { tn = tn; mask = mask; hsn = hsn; maio = maio }
 pub record Borders : Type 0 where
   -- "An ARFCN is a channel number, 0 to 1023. The cell allocation CA is 1 to 64 ARFCNs, strictly ascending."
   pub allocation : map (λ ca. hop_of ca 1 0 0 0) ((0 ∷ []) ∷ (1023 ∷ []) ∷ (1 ∷ 1022 ∷ 1023 ∷ []) ∷ arfcns 64 ∷ [])
-      ≡ on 0 0 0 ∷ on 1023 0 0 ∷ on 1 0 0 ∷ on 0 0 0 ∷ []
+      ≡ on 0 0 0 ∷ on 1023 0 0 ∷ on 1 0 0 ∷ on 1 0 0 ∷ []
   -- "1 CA isn't as above."
   pub no_allocation : map (λ ca. hop_of ca 1 0 0 0) ([] ∷ (1024 ∷ []) ∷ (10 ∷ 1024 ∷ []) ∷ (20 ∷ 20 ∷ []) ∷ (10 ∷ 30 ∷ 20 ∷ []) ∷ arfcns 65 ∷ [])
       ≡ refused (alone 1) ∷ refused (alone 1) ∷ refused (alone 1) ∷ refused (alone 1) ∷ refused (alone 1) ∷ refused (alone 1) ∷ []
+  -- document 02, No. 3: "ARFCN 0 last, after all others in ascending order": behind one, behind the largest, behind 63 others
+  pub zero_last : map (λ ca. hop_of ca 1 0 0 0) ((5 ∷ 0 ∷ []) ∷ (1023 ∷ 0 ∷ []) ∷ (arfcns 63 ++ (0 ∷ [])) ∷ []) ≡ on 5 0 0 ∷ on 1023 0 0 ∷ on 1 0 0 ∷ []
+  -- and before others, twice, and behind what is out of order, no ARFCN, or 64 already
+  pub zero_out_of_place : map (λ ca. hop_of ca 1 0 0 0) ((0 ∷ 5 ∷ []) ∷ (0 ∷ 1023 ∷ []) ∷ (0 ∷ 0 ∷ []) ∷ (5 ∷ 0 ∷ 7 ∷ []) ∷ (5 ∷ 0 ∷ 0 ∷ []) ∷ (7 ∷ 5 ∷ 0 ∷ []) ∷ (1024 ∷ 0 ∷ [])
+      ∷ (arfcns 64 ++ (0 ∷ [])) ∷ [])
+      ≡ replicate 8 (refused (alone 1))
+  -- "and mask bits count in it": of CA 5, 10, 0 bit 2 stands for ARFCN 0, in the masks 7, 6 and 4, and mask 3 is without; of 1 to 63 and 0 bit 63 does
+  pub zero_in_mask : map (with_zero 7) (0 ∷ 1 ∷ 2 ∷ []) ++ map (with_zero 6) (0 ∷ 1 ∷ []) ++ map (with_zero 4) (0 ∷ 1 ∷ []) ++ map (with_zero 3) (0 ∷ 1 ∷ 2 ∷ [])
+      ≡ on 5 0 0 ∷ on 10 1 1 ∷ on 0 2 2 ∷ on 10 0 1 ∷ on 0 1 2 ∷ on 0 0 2 ∷ on 0 0 2 ∷ on 5 0 0 ∷ on 10 1 1 ∷ on 5 0 0 ∷ []
+  pub zero_at_63 : hop_of (arfcns 63 ++ (0 ∷ [])) all_ones 0 0 63 ∷ hop_of (arfcns 63 ++ (0 ∷ [])) highest_one 0 0 0 ∷ [] ≡ on 0 63 63 ∷ on 0 0 63 ∷ []
   -- of `position`, which takes CA's length: 0 and 65, and before 3 to 5
   pub no_length : masked 0 1 ∷ masked 1 1 ∷ masked 64 1 ∷ masked 65 1 ∷ position_of 0 0 64 64 2715648 ∷ position_of 65 0 64 64 2715648 ∷ []
       ≡ refused (alone 1) ∷ at 0 0 ∷ at 0 0 ∷ refused (alone 1) ∷ refused (alone 1) ∷ refused (alone 1) ∷ []
@@ -72,8 +86,8 @@ pub record Borders : Type 0 where
   pub random_63 : map (hopped 63) (0 ∷ 84863 ∷ 84864 ∷ 86190 ∷ 2715647 ∷ []) ≡ map both (43 ∷ 34 ∷ 43 ∷ 40 ∷ 34 ∷ [])
   -- "NBIN is the number of bits needed to write N": N before and at each power of two
   pub bits : map nbin (1 ∷ 2 ∷ 3 ∷ 4 ∷ 7 ∷ 8 ∷ 15 ∷ 16 ∷ 31 ∷ 32 ∷ 63 ∷ 64 ∷ []) ≡ 1 ∷ 2 ∷ 2 ∷ 3 ∷ 3 ∷ 4 ∷ 4 ∷ 5 ∷ 5 ∷ 6 ∷ 6 ∷ 7 ∷ []
-  -- document 02, No. 2: "MAI and the CA position beside the ARFCN": the ones are at positions 1, 3 and 63 of CA 0, 1, 2, .., MAI 0, 1 and 2
-  pub holes : map (hop_of (arfcns 64) 9223372036854775818 0 0) (0 ∷ 1 ∷ 2 ∷ 3 ∷ []) ≡ on 1 0 1 ∷ on 3 1 3 ∷ on 63 2 63 ∷ on 1 0 1 ∷ []
+  -- document 02, No. 2: "MAI and the CA position beside the ARFCN": the ones are at positions 1, 3 and 63 of CA 1, 2, 3, .., MAI 0, 1 and 2
+  pub holes : map (hop_of (arfcns 64) 9223372036854775818 0 0) (0 ∷ 1 ∷ 2 ∷ 3 ∷ []) ≡ on 2 0 1 ∷ on 4 1 3 ∷ on 64 2 63 ∷ on 2 0 1 ∷ []
   pub entries : map (hop_of (10 ∷ 20 ∷ 30 ∷ 40 ∷ []) 10 0 1) (0 ∷ 1 ∷ []) ≡ on 40 1 3 ∷ on 20 0 1 ∷ []
   -- "Two lines clash if TN is equal, the masks share a one, and it isn't so that masks and HSN are equal and MAIO differ."
   pub clashes : clash (line 0 6 1 0) (line 0 6 1 0) ∷ clash (line 0 6 1 0) (line 0 6 2 1) ∷ clash (line 0 6 1 0) (line 0 4 1 1)

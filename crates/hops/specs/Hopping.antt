@@ -63,6 +63,10 @@ line_selection m hsn maio fn = record { mai = mai_of (ones m) hsn maio fn; posit
 abbrev pub tuned : List ℕ → Selection → Tuning
 tuned ca s = record { arfcn = get_or ca s.position 0; mai = s.mai; position = s.position }
 
+-- where there is nothing to be tuned to, each number is 0
+abbrev pub no_tuning : Tuning
+no_tuning = record { arfcn = 0; mai = 0; position = 0 }
+
 -- what a line is tuned to in a frame
 abbrev pub line_tuning : List ℕ → ℕ → ℕ → ℕ → ℕ → Tuning
 line_tuning ca m hsn maio fn = tuned ca (line_selection m hsn maio fn)

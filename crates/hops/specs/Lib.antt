@@ -1,6 +1,8 @@
 pub mod Masks
 pub mod Allocation
 pub mod Hopping
+pub mod Handset
+pub mod Former
 pub mod Clash
 pub mod Placed
 pub mod Borders

@@ -3,6 +3,7 @@ use Rattle.std.specs.Prelude.{ℕ, ◌≡◌, ◌<◌, List, length, get_or}
 use Rattle.answers.specs.Outcome.{accepted}
 use Rattle.hops.specs.Masks.{bit, ones, ones_below}
 use Rattle.hops.specs.Hopping.{hop_of}
+use Rattle.hops.specs.Handset.{AsRead}
 use Rattle.hops.specs.declared.Tuning.{Tuning}
 
 -- what a line with this mask is tuned to in a cell with this CA
@@ -17,6 +18,8 @@ pub record Placed (ca : List ℕ) (mask : ℕ) (t : Tuning) : Type 0 where
   -- MAI, 0 to N − 1: document 01, "the mask's one bit that has MAI ones below it"
   pub rank : ones_below mask t.position ≡ t.mai
   pub below : t.mai < ones mask
+  -- document 02, No. 3: "A cell with ARFCN 0 is compared with 04.08 from then on": MAI in the list that a handset makes of the mask's ARFCNs
+  pub read : AsRead ca mask t
 
 -- of every accepted hop
 unfoldable pub HopsArePlaced : Type 0

@@ -57,4 +57,4 @@ pub record Sums : Type 0 where
   -- all of them of HSN 7 in FN 25 and of HSN 57 in FN 152, with the mask of 64 ones, and what hop answers
   pub in_numbers : numbers all_ones 7 25 ∷ numbers all_ones 57 152 ∷ []
       ≡ record { n = 64; m = 152; m' = 24; t' = 25; sum = 49; s = 24 } ∷ record { n = 64; m = 127; m' = 127; t' = 50; sum = 177; s = 49 } ∷ []
-  pub answered : hop_of (arfcns 64) all_ones 7 0 25 ∷ hop_of (arfcns 64) all_ones 57 0 152 ∷ [] ≡ on 24 24 24 ∷ on 49 49 49 ∷ []
+  pub answered : hop_of (arfcns 64) all_ones 7 0 25 ∷ hop_of (arfcns 64) all_ones 57 0 152 ∷ [] ≡ on 25 24 24 ∷ on 50 49 49 ∷ []

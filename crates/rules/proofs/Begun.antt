@@ -14,10 +14,10 @@ use Rattle.answers.specs.Ranges.{no_size}
 use Rattle.answers.specs.Search.{all_below, any_below}
 use Rattle.answers.proofs.Decide.{decided}
 use Rattle.answers.proofs.Tests.{or_none_left, or_none_right}
-use Rattle.hops.specs.Allocation.{is_allocation}
+use Rattle.hops.specs.Allocation.{is_allocation, lists}
 use Rattle.hops.proofs.Apart.{sized, at_most_64}
 use Rattle.rules.specs.State.{Cell, tabulate, allocation, empty}
-use Rattle.rules.specs.Calls.{step, lists, start_causes, refused_cell, start_of}
+use Rattle.rules.specs.Calls.{step, start_causes, refused_cell, start_of}
 use Rattle.rules.specs.History.{opened_with, last_accepted, cell_from}
 use Rattle.rules.proofs.Tabulate.{tabulate_at, tabulate_list, tabulate_length}
 

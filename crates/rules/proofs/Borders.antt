@@ -17,7 +17,7 @@ use Rattle.rules.specs.Paging.{page_of}
 use Rattle.rules.specs.Who.{who_of, match_of}
 use Rattle.rules.specs.CollisionFree.{run}
 use Rattle.rules.specs.ExampleRun.{refusals}
-use Rattle.rules.specs.Borders.{StartBorders, OpenBorders, PlaceBorders, CloseBorders, OwnerBorders, LineBorders, WhoBorders, PageBorders, Borders}
+use Rattle.rules.specs.Borders.{StartBorders, OpenBorders, PlaceBorders, CloseBorders, OwnerBorders, LineBorders, WhoBorders, PageBorders, ZeroBorders, Borders}
 
 start_borders : StartBorders
 unfolding from decide any_of all_below any_below is_allocation tabulate closed_line empty start_of
@@ -51,6 +51,10 @@ page_borders : PageBorders
 unfolding page_of paging_of run decide any_of all_below any_below count_below least ones_below one_at_or_above share_one is_allocation clash combinations among tabulate closed_line empty start_of open_of
 page_borders = record { ranges = (refl, refl, refl, refl); no_line = (refl, refl); none_open = refl; one = refl; combined = refl; four = refl }
 
+zero_borders : ZeroBorders
+unfolding refusals who_of match_of slot_of owner_of position_of map_of standing numbered each from rows_among full_rate half_rate uncombined combined additional sdcch8 rntable nbin S mai_of run decide any_of all_below any_below least ones_below position_at one_at_or_above share_one is_allocation clash combinations among tabulate closed_line empty start_of open_of seize_of line_of
+zero_borders = record { last = refl; cell = refl; c0_alone = refl; line = refl; who = refl }
+
 pub borders : Borders
 borders =
     record {
@@ -62,4 +66,5 @@ borders =
       of_line = line_borders;
       of_who = who_borders;
       of_page = page_borders;
+      of_zero = zero_borders;
     }

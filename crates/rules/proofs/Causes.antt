@@ -4,7 +4,6 @@ use Prim.Native.Nat.{ℕ}
 use mathlib.Core.Path.{◌≡◌, refl, sym, ap, ◌∙◌}
 use mathlib.Core.Bool.{true}
 use mathlib.Core.List.{List, [], ◌∷◌}
-use mathlib.Core.Logic.{⊎_elim}
 use mathlib.Core.Option.{none, some}
 use native.Mathlib.Omega.{arith}
 use Rattle.answers.specs.Outcome.{Refused, Outcome, refused, accepted, Cause, any_of, decide, ascending, ascending_from}
@@ -12,8 +11,8 @@ use Rattle.answers.specs.Ranges.{line_count}
 use Rattle.answers.specs.Search.{any_below}
 use Rattle.answers.specs.Claims.{FairAnswer, NoCause}
 use Rattle.answers.proofs.Decide.{refused_has_cause, refused_is_lowest, fair_answer, decided}
-use Rattle.answers.proofs.Search.{any_none, First, first_or_none, least_first}
-use Rattle.answers.proofs.Tests.{or_false, not_both}
+use Rattle.answers.proofs.Search.{First, least_first, some_first}
+use Rattle.answers.proofs.Tests.{or_false}
 use Rattle.rules.specs.State.{Cell, Values, line_with, free, closed_line, line_at, empty}
 use Rattle.rules.specs.Calls.{step, start_causes, refused_cell, start_of, with_line, with_owner, in_the_way, clash_cause, open_causes, open_of, close_causes, close_of, seize_causes, seize_of, release_causes, release_of}
 use Rattle.rules.specs.OnAir.{slot_of, line_causes, line_of}
@@ -85,7 +84,7 @@ pub record Smallest (c : Cell) (v : Values) : Type 0 where
 
 pub smallest_named : (c : Cell) (v : Values) → any_of (clash_cause c v).conditions ≡ true → Smallest c v
 unfolding any_of
-smallest_named c v e = ⊎_elim named (λ f. not_both (way e) (any_none (in_the_way c v) line_count f)) (first_or_none (in_the_way c v) line_count)
+smallest_named c v e = named (some_first (in_the_way c v) line_count (way e))
   where
     named : First (in_the_way c v) line_count → Smallest c v
     named w = record { line = w; is_named = ap (λ (m : ℕ). record { number = 9; values = m ∷ [] }) (least_first (in_the_way c v) line_count line_count w) }

@@ -14,7 +14,7 @@ use Rattle.answers.specs.Ranges.{line_count}
 use Rattle.answers.specs.Search.{any_below}
 use Rattle.answers.specs.Claims.{Caused}
 use Rattle.answers.proofs.Decide.{decided}
-use Rattle.answers.proofs.Search.{First, any_at, any_none, first_or_none}
+use Rattle.answers.proofs.Search.{First, any_at, some_first}
 use Rattle.answers.proofs.Tables.{every}
 use Rattle.answers.proofs.Tests.{and_left, and_right, and_both, and_false_right, and_rest, not_both, refute, or_none_left, or_none_right}
 use Rattle.hops.specs.Masks.{contains, share_one}
@@ -79,7 +79,7 @@ module _ (v : Values) (l : LineState) where
   -- what the test of 9 says, and back
   shows_clash : (is_open l && clash (physical v) (line_physical l)) ≡ true → StandsInTheWay v l
   unfolding clash share_one
-  shows_clash h = ⊎_elim here (λ f. not_both share (any_none shared 64 f)) (first_or_none shared 64)
+  shows_clash h = here (some_first shared 64 share)
     where
       shared : ℕ → Bool
       shared p = contains v.mask p && contains l.mask p

@@ -18,6 +18,7 @@ pub mod Causes
 pub mod Known
 pub mod WhoAndLine
 pub mod Routed
+pub mod Handset
 pub mod CommonLines
 pub mod PageAndLine
 pub mod Borders

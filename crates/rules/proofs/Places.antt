@@ -13,7 +13,7 @@ use Rattle.answers.specs.Outcome.{Outcome}
 use Rattle.answers.specs.Claims.{NoneHolds}
 use Rattle.answers.specs.Ranges.{line_count, no_line}
 use Rattle.answers.proofs.Decide.{decided}
-use Rattle.answers.proofs.Search.{First, any_at, any_none, first_or_none}
+use Rattle.answers.proofs.Search.{First, any_at, some_first}
 use Rattle.answers.proofs.Tests.{and_left, and_right, and_both, and_rest, or_left, or_right, not_both}
 use Rattle.rules.specs.State.{Cell, LineState, Values, line_with, is_open, line_at}
 use Rattle.rules.specs.Calls.{step, any_line, has_combination, is_common_combination, is_common_line, stands_in, c0_alone, misplaced, needed, open_causes, open_of, close_causes, close_of, seize_causes, seize_of, release_causes, release_of}
@@ -94,7 +94,7 @@ module _ (first : Cell) (past : List Made) (sound : Sound first past) where
     pub passes : test (line_with values (held_by past line)) ≡ true
 
   pub some_such : (test : LineState → Bool) → ((l : LineState) → test l ≡ true → is_open l ≡ true) → any_line before test ≡ true → Such test
-  some_such test opened h = ⊎_elim here (λ f. not_both h (any_none (λ k. test (line_at before k)) line_count f)) (first_or_none (λ k. test (line_at before k)) line_count)
+  some_such test opened h = here (some_first (λ k. test (line_at before k)) line_count h)
     where
       here : First (λ k. test (line_at before k)) line_count → Such test
       here w =

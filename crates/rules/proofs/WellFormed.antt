@@ -12,12 +12,13 @@ use lib.Dec.{eqb}
 use lib.ListN.{length, get_or, get_or-eq_default}
 use lib.Seq.{get_or-take}
 use borrow.Author.Tests.{eqb-true, eqb-false, eq-eqb, not-true, not-false}
-use Rattle.answers.proofs.Search.{First, any_at, any_none, first_or_none}
-use Rattle.answers.proofs.Tests.{and_left, and_right, and_both, and_rest, or_none_left, or_false, not_both}
+use Rattle.answers.proofs.Search.{First, any_at, some_first}
+use Rattle.answers.proofs.Tests.{and_left, and_right, and_both, and_rest, or_false, not_both}
 use Rattle.hops.specs.Masks.{contains, ones, share_one}
 use Rattle.hops.specs.Hopping.{line_position}
 use Rattle.hops.specs.Clash.{Physical, clash}
-use Rattle.hops.proofs.Apart.{line_one, line_within, sized, at_most_64, entry_arfcn, ascends}
+use Rattle.hops.proofs.Order.{Before}
+use Rattle.hops.proofs.Apart.{line_one, line_within, at_least_1, at_most_64, entry_arfcn, comes_before}
 use Rattle.hops.proofs.Bits.{bit_contains, contains_bit, above_bit, ones_past, zero_bit}
 use Rattle.maps.specs.Combinations.{combinations, among, is_combination}
 use Rattle.rules.specs.State.{Cell, LineState, Values, tabulate, owner_room, line_with, closed_line, line_at, owner_at, allocation}
@@ -86,17 +87,12 @@ module _ (first : Cell) (begun : Begun first) (filled : Filled first) (past : Li
 
   -- ---- the numbers that start names
 
-  at_least_1 : 1 ≤ length (allocation first)
-  at_least_1 =
-      let z = eqb-false (length (allocation first)) 0 (or_none_left (eqb (length (allocation first)) 0) _ (sized (allocation first) begun.allocated)) in
-      omega (arith, z)
-
   entry : (k : ℕ) → k < first.size → get_or (allocation first) k 0 ≡ get_or first.ca k 0
   entry k l = get_or-take first.size first.ca k 0 l
 
   -- the position of C0
   c0_first : First (λ k. eqb (get_or (allocation first) k 0) first.c0) (length (allocation first))
-  c0_first = ⊎_elim (λ w. w) (λ f. not_both filled.c0_listed (any_none (λ k. eqb (get_or (allocation first) k 0) first.c0) (length (allocation first)) f)) (first_or_none (λ k. eqb (get_or (allocation first) k 0) first.c0) (length (allocation first)))
+  c0_first = some_first (λ k. eqb (get_or (allocation first) k 0) first.c0) (length (allocation first)) filled.c0_listed
 
   c0_below : c0_first.place < first.size
   c0_below = subst (λ (i : ℕ). c0_first.place < i) begun.known_length c0_first.below
@@ -106,11 +102,14 @@ module _ (first : Cell) (begun : Begun first) (filled : Filled first) (past : Li
   parameters =
       record {
         room = filled.room;
-        least = subst (λ (i : ℕ). 1 ≤ i) begun.known_length at_least_1;
+        least = subst (λ (i : ℕ). 1 ≤ i) begun.known_length (at_least_1 (allocation first) begun.allocated);
         most = subst (λ (i : ℕ). i ≤ 64) begun.known_length (at_most_64 (allocation first) begun.allocated);
         past = filled.past_length;
         arfcn = λ k l. let a = entry_arfcn (allocation first) begun.allocated k (in_allocation first begun k l) in let e = entry k l in omega arith;
-        ascending = λ j k o l. let a = ascends (allocation first) begun.allocated j k o (in_allocation first begun k l) in let d : j < first.size = omega arith in let e = entry j d in let f = entry k l in omega arith;
+        in_order = λ j k o l.
+            let a = comes_before (allocation first) begun.allocated j k o (in_allocation first begun k l) in
+            subst (λ (x : ℕ). Before x (get_or first.ca k 0)) (entry j (let d : j < first.size = omega arith in d))
+            (subst (Before (get_or (allocation first) j 0)) (entry k l) a);
         c0 = c0_first.place;
         c0_within = c0_below;
         c0_there = sym (entry c0_first.place c0_below) ∙ eqb-true _ _ c0_first.passes;
@@ -332,7 +331,7 @@ module _ (first : Cell) (begun : Begun first) (filled : Filled first) (past : Li
               inr (inr (omega arith, stands lower.line 6 4 lower.values lower.is_open k f))
 
   beacon : (n p : ℕ) → IsCommon cell n → OneAt (line_at cell n).mask p → get_or first.ca p 0 ≡ first.c0
-  beacon n p h o = ⊎_elim here (λ f. not_both (and_right (eqb (ones v.mask) 1) _ alone_there) (any_none test first.size f)) (first_or_none test first.size)
+  beacon n p h o = here (some_first test first.size (and_right (eqb (ones v.mask) 1) _ alone_there))
     where
       w : Common n
       w = common n h

@@ -3,7 +3,7 @@
 use Rattle.std.specs.Prelude.{ℕ, ◌≡◌, Bool, true, false, List, [], ◌∷◌, ◌++◌, map, replicate}
 use Rattle.std.proofs.Math.Option.{Option, none, some}
 use Rattle.answers.specs.Outcome.{Refused, Outcome, refused, accepted, alone}
-use Rattle.maps.specs.declared.Kind.TheVariants.{Sacch, Sdcch, Rach}
+use Rattle.maps.specs.declared.Kind.TheVariants.{Ccch, Sacch, Sdcch, Rach}
 use Rattle.maps.specs.Channels.{at}
 use Rattle.maps.specs.Rows.{from}
 use Rattle.groups.specs.declared.PagingBlock.{PagingBlock}
@@ -40,7 +40,7 @@ reserved = (start_of (10 ∷ 20 ∷ 30 ∷ []) 20 7 3 9).cell
 
 -- the longest CA
 abbrev pub many : Cell
-many = (start_of (from 0 64) 0 0 0 2).cell
+many = (start_of (from 1 64) 1 0 0 2).cell
 
 -- the cell after some calls on the first
 abbrev pub after : List Call → Cell
@@ -59,7 +59,7 @@ closed_cell ca zeros size c0 bcc ag p =
 
 pub record StartBorders : Type 0 where
   -- "CA is 1 to 64 ARFCNs"
-  pub sizes : starts [] 0 0 0 2 ∷ starts (10 ∷ []) 10 0 0 2 ∷ starts (from 0 64) 63 0 0 2 ∷ starts (from 0 65) 0 0 0 2 ∷ []
+  pub sizes : starts [] 0 0 0 2 ∷ starts (10 ∷ []) 10 0 0 2 ∷ starts (from 1 64) 64 0 0 2 ∷ starts (from 1 65) 1 0 0 2 ∷ []
       ≡ refuses 1 ∷ none ∷ none ∷ refuses 1 ∷ []
   -- "An ARFCN is a channel number, 0 to 1023"
   pub arfcns : starts (0 ∷ []) 0 0 0 2 ∷ starts (1023 ∷ []) 1023 0 0 2 ∷ starts (1024 ∷ []) 1024 0 0 2 ∷ []
@@ -278,6 +278,44 @@ pub record PageBorders : Type 0 where
   pub combined : common_of (after (places 63 5 0 2 7 ∷ [])) ≡ paging 1 true 2 9
   pub four : common_of (after (places 0 4 0 2 7 ∷ places 1 6 2 2 7 ∷ places 2 6 4 2 7 ∷ places 3 6 6 2 7 ∷ places 4 7 1 1 7 ∷ [])) ≡ paging 4 false 2 9
 
+-- ---- a cell with ARFCN 0: document 02, No. 3
+
+-- CA 5, 10, 0 and C0 0 (mask 4), BCC 7, AG 2, P 9
+abbrev pub with_zero : Cell
+with_zero = (start_of (5 ∷ 10 ∷ 0 ∷ []) 0 7 2 9).cell
+
+-- a 4, and a full-rate line of timeslot 1 that hops over 10 and 0
+abbrev pub on_zero : Cell
+on_zero = (run (begin with_zero) (places 0 4 0 4 7 ∷ opens 9 (values 1 6 0 0 1 0) ∷ seizes 9 0 3 ∷ [])).cell
+
+-- line 9 in FN 25: FN mod 2 is 1, and q is 25, where timeslot 1 has place 0 of its SACCH
+abbrev pub zero_slot : Slot
+zero_slot = sent 0 1 2 (at Sacch 0 0 0 ∷ []) 3
+
+-- the 4 in FN 12, which is 12 mod 51 too: place 0 of CCCH block 1
+abbrev pub beacon_slot : Slot
+beacon_slot = sent 0 0 2 (at Ccch 0 1 0 ∷ []) 0
+
+pub record ZeroBorders : Type 0 where
+  -- "ARFCN 0 last, after all others in ascending order": "refusal 1 is given by it"
+  pub last :
+      starts (5 ∷ 0 ∷ []) 5 0 0 2 ∷ starts (5 ∷ 0 ∷ []) 0 0 0 2 ∷ starts (from 1 63 ++ (0 ∷ [])) 0 0 0 2
+      ∷ starts (0 ∷ 5 ∷ []) 0 0 0 2 ∷ starts (0 ∷ 0 ∷ []) 0 0 0 2 ∷ starts (5 ∷ 0 ∷ 7 ∷ []) 5 0 0 2 ∷ starts (from 1 64 ++ (0 ∷ [])) 0 0 0 2 ∷ []
+      ≡ none ∷ none ∷ none ∷ refuses 1 ∷ refuses 1 ∷ refuses 1 ∷ refuses 1 ∷ []
+  pub cell : with_zero ≡ closed_cell (5 ∷ 10 ∷ 0 ∷ []) 61 3 0 7 2 9
+  -- "mask bits count in it": C0 is at position 2
+  pub c0_alone :
+      refusals with_zero (places 0 4 0 1 7 ∷ places 0 4 0 2 7 ∷ places 0 4 0 6 7 ∷ places 0 4 0 8 7 ∷ places 0 4 0 4 7 ∷ [])
+      ≡ refuses 8 ∷ refuses 8 ∷ refuses 8 ∷ refuses 4 ∷ none ∷ []
+  -- the line of mask 6 is on ARFCN 10 where MAI is 0, on ARFCN 0 where MAI is 1; the 4 is on ARFCN 0 always
+  pub line :
+      line_of on_zero 9 12 0 ∷ line_of on_zero 9 25 0 ∷ line_of on_zero 0 12 0 ∷ []
+      ≡ accepted (sent 10 0 1 [] 0) ∷ accepted zero_slot ∷ accepted beacon_slot ∷ []
+  -- who has ARFCN 0: line 9, and nobody in a frame in which that is on 10; in timeslot 0 the 4
+  pub who :
+      who_of on_zero 1 0 25 0 ∷ who_of on_zero 1 0 12 0 ∷ who_of on_zero 1 5 25 0 ∷ who_of on_zero 2 0 25 0 ∷ who_of on_zero 0 0 12 0 ∷ []
+      ≡ accepted (some (record { line = 9; slot = zero_slot })) ∷ accepted none ∷ accepted none ∷ accepted none ∷ accepted (some (record { line = 0; slot = beacon_slot })) ∷ []
+
 pub record Borders : Type 0 where
   pub of_start : StartBorders
   pub of_open : OpenBorders
@@ -287,3 +325,4 @@ pub record Borders : Type 0 where
   pub of_line : LineBorders
   pub of_who : WhoBorders
   pub of_page : PageBorders
+  pub of_zero : ZeroBorders

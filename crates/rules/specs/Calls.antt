@@ -1,5 +1,5 @@
 -- The calls that hand back a cell: document 01, "The cell and its calls" and "Who causes a refusal". Assumes nothing.
-use Rattle.std.specs.Prelude.{ℕ, ◌+◌, ◌-◌, Bool, not, ◌&&◌, ◌||◌, cond, List, [], ◌∷◌, ltb, eqb, length, get_or, set, Result}
+use Rattle.std.specs.Prelude.{ℕ, ◌+◌, ◌-◌, Bool, not, ◌&&◌, ◌||◌, cond, List, [], ◌∷◌, ltb, eqb, get_or, set, Result}
 use Rattle.std.proofs.Math.Option.{Option, none, some}
 use Rattle.answers.specs.Outcome.{Refused, Outcome, refused, accepted, Cause, cause, decide}
 use Rattle.answers.specs.Ranges.{line_count, no_line, no_tn, no_hsn, no_tsc, no_bcc, no_ag, no_p, no_owner}
@@ -7,7 +7,7 @@ use Rattle.answers.specs.Refusals.{refusal_in}
 use Rattle.answers.specs.declared.Refusal.{Refusal}
 use Rattle.answers.specs.Search.{any_below, least}
 use Rattle.hops.specs.Masks.{contains, ones}
-use Rattle.hops.specs.Allocation.{allocation_cause}
+use Rattle.hops.specs.Allocation.{allocation_cause, lists}
 use Rattle.hops.specs.Hopping.{mask_cause, maio_cause}
 use Rattle.hops.specs.Clash.{Physical, clash}
 use Rattle.maps.specs.Combinations.{is_combination}
@@ -32,16 +32,13 @@ changed answer cell = record { refusal = refusal_in answer; cell = cell }
 
 -- ---- start
 
--- some entry of the list is the ARFCN
-abbrev pub lists : List ℕ → ℕ → Bool
-lists ca arfcn = any_below (λ k. eqb (get_or ca k 0) arfcn) (length ca)
+-- "2 C0 not in CA, or BCC, AG or P out of range."
+abbrev pub parameter_cause : List ℕ → ℕ → ℕ → ℕ → ℕ → Cause
+parameter_cause ca c0 bcc ag p = cause 2 (not (lists ca c0) ∷ no_bcc bcc ∷ no_ag ag ∷ no_p p ∷ [])
 
--- "1 CA isn't as above. 2 C0 not in CA, or BCC, AG or P out of range."
+-- 1 and 2
 abbrev pub start_causes : List ℕ → ℕ → ℕ → ℕ → ℕ → List Cause
-start_causes ca c0 bcc ag p =
-    allocation_cause ca
-    ∷ cause 2 (not (lists ca c0) ∷ no_bcc bcc ∷ no_ag ag ∷ no_p p ∷ [])
-    ∷ []
+start_causes ca c0 bcc ag p = allocation_cause ca ∷ parameter_cause ca c0 bcc ag p ∷ []
 
 -- "refused, it hands back the cell with ARFCN 0 as CA and C0, BCC and AG 0, P 2, all lines closed"
 abbrev pub refused_cell : Cell

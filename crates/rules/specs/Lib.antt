@@ -5,6 +5,7 @@ pub mod Claims
 pub mod CollisionFree
 pub mod DrillSheet
 pub mod ExampleRun
+pub mod Handset
 pub mod History
 pub mod OnAir
 pub mod Paging

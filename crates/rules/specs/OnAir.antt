@@ -2,7 +2,7 @@
 use Rattle.std.specs.Prelude.{ℕ, cond, List, [], ◌∷◌}
 use Rattle.answers.specs.Outcome.{Outcome, refused, accepted, Cause, cause, decide}
 use Rattle.answers.specs.Ranges.{no_line, no_fn, no_direction}
-use Rattle.hops.specs.Hopping.{tuned, position_of}
+use Rattle.hops.specs.Hopping.{tuned, no_tuning, position_of}
 use Rattle.hops.specs.declared.Selection.{Selection}
 use Rattle.hops.specs.declared.Tuning.{Tuning}
 use Rattle.maps.specs.Channels.{Standing, is_common}
@@ -19,7 +19,7 @@ pub record Slot : Type 0 where
 
 -- what a line with this selection is tuned to. The calls hand back no cell whose open lines have none; were there one, each number would be 0
 abbrev pub tuning_at : List ℕ → Outcome Selection → Tuning
-tuning_at ca (refused r) = record { arfcn = 0; mai = 0; position = 0 }
+tuning_at ca (refused r) = no_tuning
 tuning_at ca (accepted s) = tuned ca s
 
 -- the ARFCN of line l in a frame, with MAI and the position

@@ -16,8 +16,8 @@ pub record HasParameters (c : Cell) : Type 0 where
   pub past : (k : ℕ) → c.size ≤ k → get_or c.ca k 0 ≡ 0
   -- "An ARFCN is a channel number, 0 to 1023"
   pub arfcn : (k : ℕ) → k < c.size → get_or c.ca k 0 ≤ 1023
-  -- "strictly ascending"
-  pub ascending : (j k : ℕ) → j < k → k < c.size → get_or c.ca j 0 < get_or c.ca k 0
+  -- "strictly ascending"; document 02, No. 3: "ARFCN 0 last, after all others"
+  pub in_order : (j k : ℕ) → j < k → k < c.size → (1 ≤ get_or c.ca j 0) × ((get_or c.ca k 0 ≡ 0) ⊎ (get_or c.ca j 0 < get_or c.ca k 0))
   -- "C0 (an ARFCN of CA)"
   pub c0 : ℕ
   pub c0_within : c0 < c.size

@@ -41,12 +41,12 @@ Commands, one to a line, and the answer when accepted:
   table TN DIRECTION FN COUNT
                               a timetable: the open lines of a timeslot
 
-Numbers are decimal. ARFCN.. is a list, the cell allocation; bit p of MASK
-stands for its position p. MAI counts the mask's ones below the one that is
-used; POSITION is the place of the ARFCN in the cell allocation, from 0.
-DIRECTION is 0 for downlink, 1 for uplink. BITS are characters 0 and 1. COUNT
-is how many frames, at most 2715648. A line that is empty or starts with # is
-passed over.
+Numbers are decimal. ARFCN.. is a list, the cell allocation: 1 to 64 ARFCNs,
+each once and in the order 1, 2, .., 1023, 0. Bit p of MASK stands for its
+position p. MAI counts the mask's ones below the one that is used; POSITION is
+the place of the ARFCN in the cell allocation, from 0. DIRECTION is 0 for
+downlink, 1 for uplink. BITS are characters 0 and 1. COUNT is how many frames,
+at most 2715648. A line that is empty or starts with # is passed over.
 
 Other answers:
   refused N                   the lowest of these that applies:

@@ -2,6 +2,7 @@
 use Rattle.std.specs.Prelude.{ℕ, ◌≡◌, List}
 use Rattle.std.proofs.Math.Option.{Option, none, some}
 use Rattle.answers.specs.Outcome.{Outcome, refused, accepted}
+use Rattle.hops.specs.Hopping.{no_tuning}
 use Rattle.maps.specs.Numbers.{no_numbers, standing_numbers}
 use Rattle.storage.specs.Words.{cell_of}
 use Rattle.cell.specs.Leaves.{Untouched}
@@ -12,7 +13,7 @@ use Rattle.c_answers.specs.declared.TdmaAnswer.{TdmaAnswer}
 use Rattle.c_answers.specs.declared.TdmaLine.{TdmaLine}
 use Rattle.c_answers.specs.declared.TdmaWho.{TdmaWho}
 use Rattle.c_answers.specs.Numbers.{answer_numbers}
-pub use Rattle.c_answers.specs.Numbers.{no_tuning, line_fields, nobody, page_numbers}
+pub use Rattle.c_answers.specs.Numbers.{line_fields, nobody, page_numbers}
 
 -- the answer, and the cell that the words hold after a call, are the definition's
 abbrev pub Left : TdmaAnswer → List ℕ → Step → Type 0
