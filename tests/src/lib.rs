@@ -6,8 +6,8 @@
 //! paging block begins. `bursts` has the layouts of clause 5.2 written out bit by bit. `library` is
 //! the library under test as C sees it. `placed` holds its answers to the mask and the cell
 //! allocation, and asks a `handset`, which has got the cell's ARFCNs as a set. `random` draws the
-//! inputs, and `draw` whole calls on a cell, which `calls` makes on both. `c_api` is the second
-//! implementation for C.
+//! inputs, and `draw` whole calls on a cell, which `calls` makes on both; `typed` has answers as
+//! numbers in a row. `c_api` is the second implementation for C.
 //!
 //! For the program `schedule`, `command` reads a line of its text format, `schedule` answers whole
 //! inputs from the second implementation, with `timetable` for the tables, `draw_line` and `script`
@@ -33,6 +33,7 @@ pub mod random;
 pub mod schedule;
 pub mod script;
 pub mod timetable;
+pub mod typed;
 
 /// An answer, or the number of the refusal.
 pub type Answer<T> = Result<T, u32>;

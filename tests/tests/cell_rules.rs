@@ -4,9 +4,10 @@
 use tdma_tests::calls::{change, Both, Call};
 use tdma_tests::cell::{Plan, Six};
 use tdma_tests::clock::HYPERFRAME;
-use tdma_tests::frame_map::Channel::{self, *};
+use tdma_tests::frame_map::Channel::*;
 use tdma_tests::library::{LineAnswer, PageAnswer, WhoAnswer};
 use tdma_tests::paging::Imsi;
+use tdma_tests::typed::{burst, found, idle};
 
 /// CA is 10, 20, 30, 40 and C0 is 20, so that mask 2 is C0 alone.
 fn cell(bcc: u32, ag: u32) -> Both {
@@ -263,31 +264,6 @@ fn owners() {
     script(&mut cell(0, 0), &calls);
 }
 
-/// ARFCN, MAI and position.
-type Tuned = (u32, u32, u32);
-
-/// A burst that belongs to one block.
-fn burst(tuned: Tuned, channel: Channel, s: u32, owner: u32, block: u32, place: u32) -> LineAnswer {
-    LineAnswer {
-        owner,
-        channel: channel as u32,
-        subchannel: s,
-        blocks: 1,
-        block,
-        place,
-        ..idle(tuned)
-    }
-}
-
-fn idle((arfcn, mai, position): Tuned) -> LineAnswer {
-    LineAnswer {
-        arfcn,
-        mai,
-        position,
-        ..Default::default()
-    }
-}
-
 #[test]
 fn line() {
     let mut both = cell(0, 0);
@@ -313,15 +289,6 @@ fn line() {
     assert_eq!(both.line(1, 25, 0), sacch);
     assert_eq!(both.line(1, 12, 0), idle((30, 2, 2)));
     assert_eq!(both.line(1, 5, 0), tch);
-}
-
-fn found(line: u32, answer: LineAnswer) -> WhoAnswer {
-    WhoAnswer {
-        refusal: 0,
-        found: 1,
-        line,
-        answer,
-    }
 }
 
 #[test]

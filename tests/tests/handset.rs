@@ -5,11 +5,12 @@ use std::collections::{BTreeMap, BTreeSet};
 use tdma_tests::calls::{Both, Call};
 use tdma_tests::cell::Plan;
 use tdma_tests::clock::HYPERFRAME;
-use tdma_tests::frame_map::Channel::{self, *};
+use tdma_tests::frame_map::Channel::*;
 use tdma_tests::handset::Arfcns;
 use tdma_tests::hopping;
-use tdma_tests::library::{self, HopAnswer, LineAnswer, WhoAnswer};
+use tdma_tests::library::{self, HopAnswer, WhoAnswer};
 use tdma_tests::random::Random;
+use tdma_tests::typed::{burst, found, idle, Tuned};
 use tdma_tests::{draw, placed, CELL_ALLOCATION, COMMON_CHANNEL, MOBILE_ALLOCATION};
 
 /// How many sets are drawn with ARFCN 0, and how many without.
@@ -184,9 +185,6 @@ fn lists_of_other_sizes_are_refused() {
 /// The cell allocation of the tests below; bit 2 of a mask stands for ARFCN 0.
 const CA: [u16; 3] = [5, 10, 0];
 
-/// ARFCN, MAI and position.
-type Tuned = (u32, u32, u32);
-
 /// A mask, and what lines with HSN 0 and MAIO 0 are tuned to in frames 0, 1 and 2.
 const TUNED: [(u64, [Tuned; 3]); 7] = [
     (7, [(5, 0, 0), (10, 1, 1), (0, 2, 2)]),
@@ -258,38 +256,6 @@ fn c0_alone_in_a_mask() {
     }
 }
 
-/// What is on the air: subchannel, block and place, or idle.
-fn on_air(
-    (arfcn, mai, position): Tuned,
-    channel: Channel,
-    owner: u32,
-    at: Option<(u32, u32, u32)>,
-) -> LineAnswer {
-    let blocks = at.is_some().into();
-    let (s, block, place) = at.unwrap_or_default();
-    LineAnswer {
-        arfcn,
-        mai,
-        position,
-        channel: channel as u32,
-        owner,
-        subchannel: s,
-        blocks,
-        block,
-        place,
-        ..Default::default()
-    }
-}
-
-fn found(line: u32, answer: LineAnswer) -> WhoAnswer {
-    WhoAnswer {
-        refusal: 0,
-        found: 1,
-        line,
-        answer,
-    }
-}
-
 /// The line of mask 6 is on ARFCN 10 in even frames and on ARFCN 0 in odd ones, the 4 on ARFCN 0.
 #[test]
 fn a_cell_with_arfcn_0() {
@@ -299,15 +265,15 @@ fn a_cell_with_arfcn_0() {
         assert_eq!(both.make(&call), 0, "{call:?}");
     }
     let nobody = WhoAnswer::default();
-    let sacch = on_air((0, 1, 2), Sacch, 3, Some((0, 0, 0)));
+    let sacch = burst((0, 1, 2), Sacch, 0, 3, 0, 0);
     assert_eq!(both.line(9, 25, 0), sacch);
     assert_eq!(both.who(1, 0, 25, 0), found(9, sacch));
     assert_eq!(both.who(1, 10, 25, 0), nobody);
-    let idle = on_air((10, 0, 1), Idle, 0, None);
+    let idle = idle((10, 0, 1));
     assert_eq!(both.line(9, 12, 0), idle);
     assert_eq!(both.who(1, 0, 12, 0), nobody);
     assert_eq!(both.who(1, 10, 12, 0), found(9, idle));
-    let ccch = on_air((0, 0, 2), Ccch, 0, Some((0, 1, 0)));
+    let ccch = burst((0, 0, 2), Ccch, 0, 0, 1, 0);
     assert_eq!(both.line(0, 12, 0), ccch);
     assert_eq!(both.who(0, 0, 12, 0), found(0, ccch));
     for arfcn in [1, 5, 10, 1023] {
@@ -325,7 +291,7 @@ fn a_cell_with_arfcn_0_alone() {
     assert_eq!(both.make(&common(0, 1)), 0);
     for frame in [0, 1, 51, 1326, HYPERFRAME - 1] {
         let (line, who) = (both.line(0, frame, 1), both.who(0, 0, frame, 1));
-        let rach = on_air((0, 0, 0), Rach, 0, Some((0, frame % 51, 0)));
+        let rach = burst((0, 0, 0), Rach, 0, 0, frame % 51, 0);
         assert_eq!((line, who), (rach, found(0, rach)), "FN {frame}");
         assert_eq!(both.who(1, 0, frame, 1), WhoAnswer::default());
         assert_eq!(both.who(0, 1, frame, 1), WhoAnswer::default());

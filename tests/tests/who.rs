@@ -7,6 +7,7 @@ use tdma_tests::clock::HYPERFRAME;
 use tdma_tests::frame_map::Channel;
 use tdma_tests::library::{self, WhoAnswer};
 use tdma_tests::random::Random;
+use tdma_tests::typed::found;
 use tdma_tests::{draw, OUT_OF_RANGE};
 
 /// How many cells are asked, and in how many frames each.
@@ -119,13 +120,11 @@ fn who_names_what_line_shows(both: &Both, frame: u32, direction: u32) -> usize {
         let answer = library::line(&both.library, line, frame, direction);
         assert_eq!(answer.refusal, 0, "line {line}");
         let who = library::who(&both.library, open.tn, answer.arfcn, frame, direction);
-        let expected = WhoAnswer {
-            refusal: 0,
-            found: 1,
-            line,
-            answer,
-        };
-        assert_eq!(who, expected, "FN {frame}, direction {direction}");
+        assert_eq!(
+            who,
+            found(line, answer),
+            "FN {frame}, direction {direction}"
+        );
     }
     both.second.lines.len()
 }
