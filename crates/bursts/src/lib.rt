@@ -8,7 +8,7 @@ mod layout;
 
 ghost use Rattle.std.specs.Prelude.{◌≡◌};
 ghost use Rattle.answers.specs.Outcome.{any_of};
-ghost use Rattle.layouts.specs.Bursts.{wrote, malformed, build_of, take_of};
+ghost use Rattle.layouts.specs.Bursts.{wrote, malformed, build_of, take_of, build_normal_of, take_normal_of};
 
 use answers::Refusal;
 pub use field::Field;
@@ -49,4 +49,18 @@ pub fn take<L: WithPayload>(layout: L, burst: &[u8], payload: &mut [u8]) -> Resu
     }
     gather(fields, burst, payload);
     Ok(())
+}
+
+// Writes a normal burst with this training sequence code and payload. The code is refused before all else.
+pub fn build_normal(tsc: u32, payload: &[u8], burst: &mut [u8]) -> Result<(), Refusal>
+    ensures { wrote result burst.new ≡ build_normal_of tsc payload.now burst.old }
+{
+    build(Normal::new(tsc)?, payload, burst)
+}
+
+// Writes the payload of a normal burst with this training sequence code.
+pub fn take_normal(tsc: u32, burst: &[u8], payload: &mut [u8]) -> Result<(), Refusal>
+    ensures { wrote result payload.new ≡ take_normal_of tsc burst.now payload.old }
+{
+    take(Normal::new(tsc)?, burst, payload)
 }

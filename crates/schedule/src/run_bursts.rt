@@ -1,9 +1,11 @@
 // The commands build and take: the second word names the burst.
 use crate::output::Text;
-use crate::words::last_figures;
-use answers::Refusal;
-use bursts::{Access, Dummy, FrequencyCorrection, Layout, Normal, Synchronization, WithPayload};
-use replies::{Bits, answer, refused};
+use crate::words::{Figures, last_figures};
+use bursts::{
+    Access, Dummy, FrequencyCorrection, Layout, Synchronization, WithPayload, build_normal,
+    take_normal,
+};
+use replies::{Bits, answer};
 use text::numbers::{narrow, numbers, only};
 use text::words::next_word;
 use wording::{BurstName, Reason};
@@ -15,57 +17,55 @@ fn next_burst(words: &[u8]) -> Result<(BurstName, &[u8]), Reason> {
     Ok((burst, rest))
 }
 
-// The layout with the training sequence code that the next word is, and what follows it.
-fn next_normal(words: &[u8]) -> Result<(Result<Normal, Refusal>, &[u8]), Reason> {
-    let ([tsc], rest) = numbers::<1>(words)?;
-    Ok((Normal::new(narrow(tsc)), rest))
-}
-
 // They differ in the call, in its bound and in the length: one function would take all three.
-fn built<L: Layout>(out: &mut Text, layout: Result<L, Refusal>, payload: &[u8]) {
-    match layout {
-        Ok(layout) => {
-            let mut burst = [0u8; 148];
-            let bits = &mut burst[..L::SIZE];
-            let done = bursts::build(layout, payload, bits);
-            answer(out, done.map(|()| Bits(bits)));
-        }
-        Err(refusal) => refused(out, refusal),
-    }
+fn built<L: Layout>(out: &mut Text, layout: L, payload: &[u8]) {
+    let mut burst = [0u8; 148];
+    let bits = &mut burst[..L::SIZE];
+    let done = bursts::build(layout, payload, bits);
+    answer(out, done.map(|()| Bits(bits)));
 }
 
-fn taken<L: WithPayload>(out: &mut Text, layout: Result<L, Refusal>, burst: &[u8]) {
-    match layout {
-        Ok(layout) => {
-            let mut payload = [0u8; 148];
-            let bits = &mut payload[..L::ROOM];
-            let done = bursts::take(layout, burst, bits);
-            answer(out, done.map(|()| Bits(bits)));
-        }
-        Err(refusal) => refused(out, refusal),
-    }
+fn taken<L: WithPayload>(out: &mut Text, layout: L, burst: &[u8]) {
+    let mut payload = [0u8; 148];
+    let bits = &mut payload[..L::ROOM];
+    let done = bursts::take(layout, burst, bits);
+    answer(out, done.map(|()| Bits(bits)));
+}
+
+// A normal burst has its training sequence code before the bits. The call refuses a code above 7, before all else.
+fn built_normal(out: &mut Text, words: &[u8]) -> Result<(), Reason> {
+    let ([tsc], rest) = numbers::<1>(words)?;
+    let payload: Figures = last_figures(rest)?;
+    let mut bits = [0u8; 148];
+    let done = build_normal(narrow(tsc), payload.as_slice(), &mut bits);
+    answer(out, done.map(|()| Bits(&bits)));
+    Ok(())
+}
+
+fn taken_normal(out: &mut Text, words: &[u8]) -> Result<(), Reason> {
+    let ([tsc], rest) = numbers::<1>(words)?;
+    let burst: Figures = last_figures(rest)?;
+    let mut bits = [0u8; 116];
+    let done = take_normal(narrow(tsc), burst.as_slice(), &mut bits);
+    answer(out, done.map(|()| Bits(&bits)));
+    Ok(())
 }
 
 pub(crate) fn build(out: &mut Text, words: &[u8]) -> Result<(), Reason> {
     let (burst, rest) = next_burst(words)?;
     match burst {
-        BurstName::Normal => {
-            let (layout, rest) = next_normal(rest)?;
-            built(out, layout, last_figures(rest)?.as_slice());
+        BurstName::Normal => built_normal(out, rest)?,
+        BurstName::Synchronization => {
+            built(out, Synchronization, last_figures(rest)?.as_slice());
         }
-        BurstName::Synchronization => built(
-            out,
-            Ok(Synchronization),
-            last_figures(rest)?.as_slice(),
-        ),
-        BurstName::Access => built(out, Ok(Access), last_figures(rest)?.as_slice()),
+        BurstName::Access => built(out, Access, last_figures(rest)?.as_slice()),
         BurstName::FrequencyCorrection => {
             let [] = only::<0>(rest)?;
-            built(out, Ok(FrequencyCorrection), &[]);
+            built(out, FrequencyCorrection, &[]);
         }
         BurstName::Dummy => {
             let [] = only::<0>(rest)?;
-            built(out, Ok(Dummy), &[]);
+            built(out, Dummy, &[]);
         }
     }
     Ok(())
@@ -75,16 +75,11 @@ pub(crate) fn build(out: &mut Text, words: &[u8]) -> Result<(), Reason> {
 pub(crate) fn take(out: &mut Text, words: &[u8]) -> Result<(), Reason> {
     let (burst, rest) = next_burst(words)?;
     match burst {
-        BurstName::Normal => {
-            let (layout, rest) = next_normal(rest)?;
-            taken(out, layout, last_figures(rest)?.as_slice());
+        BurstName::Normal => taken_normal(out, rest)?,
+        BurstName::Synchronization => {
+            taken(out, Synchronization, last_figures(rest)?.as_slice());
         }
-        BurstName::Synchronization => taken(
-            out,
-            Ok(Synchronization),
-            last_figures(rest)?.as_slice(),
-        ),
-        BurstName::Access => taken(out, Ok(Access), last_figures(rest)?.as_slice()),
+        BurstName::Access => taken(out, Access, last_figures(rest)?.as_slice()),
         BurstName::FrequencyCorrection | BurstName::Dummy => return Err(Reason::UnknownBurst),
     }
     Ok(())

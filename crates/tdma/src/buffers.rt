@@ -1,25 +1,12 @@
 // The bursts, one bit to a byte, in buffers that the caller lends. Each function is the C function of its name, one for each burst, as the header has
 // them.
-ghost use Rattle.std.specs.Prelude.{◌≡◌};
-ghost use Rattle.layouts.specs.Bursts.{wrote, build_normal_of, take_normal_of, build_synchronization_of, take_synchronization_of, build_access_of, take_access_of, build_frequency_correction_of, build_dummy_of};
+ghost use Rattle.layouts.specs.Bursts.{build_normal_of, take_normal_of, build_synchronization_of, take_synchronization_of, build_access_of, take_access_of, build_frequency_correction_of, build_dummy_of};
 ghost use Rattle.tdma.specs.Buffers.{Wrote};
 
-use answers::Refusal;
-use bursts::{Access, Dummy, FrequencyCorrection, Normal, Synchronization, build, take};
+use bursts::{
+    Access, Dummy, FrequencyCorrection, Synchronization, build, build_normal, take, take_normal,
+};
 use c_answers::TdmaAnswer;
-
-// The training sequence code is refused before all else.
-fn build_normal(tsc: u32, payload: &[u8], burst: &mut [u8]) -> Result<(), Refusal>
-    ensures { wrote result burst.new ≡ build_normal_of tsc payload.now burst.old }
-{
-    build(Normal::new(tsc)?, payload, burst)
-}
-
-fn take_normal(tsc: u32, burst: &[u8], payload: &mut [u8]) -> Result<(), Refusal>
-    ensures { wrote result payload.new ≡ take_normal_of tsc burst.now payload.old }
-{
-    take(Normal::new(tsc)?, burst, payload)
-}
 
 // A normal burst with this training sequence code and payload.
 pub fn tdma_build_normal(tsc: u32, payload: &[u8], burst: &mut [u8]) -> TdmaAnswer

@@ -17,7 +17,7 @@ fits g layout =
     omega (arith, sizes.bits, sizes.payload_bits, g.met.L.Layout.fits, room-le (g.L.Layout.burst_row layout))
 
 pub slice_bounds-payload-end : goal.slice_bounds-payload-end
-slice_bounds-payload-end g c = omega (arith, c.ROOM.ensures, fits g c.in-Ok.layout)
+slice_bounds-payload-end g c = omega (arith, c.ROOM.ensures, fits g c.args.layout)
 
 pub slice_bounds-bits-end : goal.slice_bounds-bits-end
-slice_bounds-bits-end g c = sym (length-take-le _ _ (omega (arith, c.ROOM.ensures, fits g c.in-Ok.layout)))
+slice_bounds-bits-end g c = sym (length-take-le _ _ (omega (arith, c.ROOM.ensures, fits g c.args.layout)))

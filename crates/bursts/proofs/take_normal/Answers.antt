@@ -2,7 +2,7 @@
 use Rattle.std.proofs.Common.{◌∙◌}
 use Rattle.std.proofs.lemmas.Result.{err_from_is_err_and}
 use Rattle.layouts.proofs.NormalCalls.{take_follows}
-use Rattle.tdma.proofs.buffers.take_normal.Goals as goal
+use Rattle.bursts.proofs.take_normal.Goals as goal
 
 pub returns-in_err-new : goal.returns-in_err-new
 returns-in_err-new c =
