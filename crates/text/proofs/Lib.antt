@@ -1,5 +1,6 @@
 pub mod Scan
 pub mod Digits
 pub mod Taken
+pub mod InPlace
 pub mod Append
 pub mod Decimal

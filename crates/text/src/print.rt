@@ -71,11 +71,13 @@ fn bit_character(bit: u8) -> u8
     if bit == 0 { b'0' } else { b'1' }
 }
 
-// Bits, a character for each.
+// Bits, a character for each: copied whole and changed where they stand, as `figures` does.
 pub fn put_bits<const N: usize>(out: &mut ArrayVec<u8, N>, bits: &[u8])
     ensures { out.new.items ≡ written N out.old.items (map bit_character bits.now) }
 {
-    for &bit in bits {
-        put_byte(out, bit_character(bit));
+    let start = out.len();
+    put(out, bits);
+    for byte in &mut out.as_mut_slice()[start..] {
+        *byte = bit_character(*byte);
     }
 }

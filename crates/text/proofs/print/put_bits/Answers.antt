@@ -1,11 +1,15 @@
-use Rattle.std.proofs.Common.{arith}
 use Rattle.wording.specs.Print.{bit_character}
-use Rattle.wording.proofs.Written.{written-nothing, written-written}
-use Rattle.text.proofs.Append.{map_more}
+use Rattle.text.proofs.InPlace.{one_more, stood, end_changed}
 use Rattle.text.proofs.print.put_bits.Goals as goal
 
-pub loop-bit-init : goal.loop-bit-init
-loop-bit-init g c = grind (arith, written-nothing)
+pub slice_bounds-byte-items-count : goal.slice_bounds-byte-items-count
+slice_bounds-byte-items-count g c = stood bit_character g.row.N _ c.args.bits.now _ _ c.put.ensures c.as_mut_slice.ensures.value _ c.len-start.ensures.value
 
-pub loop-bit-preserved : goal.loop-bit-preserved
-loop-bit-preserved g c = grind (arith, written-written, map_more bit_character c.args.bits.now c.loop-bit.bit-index)
+pub slice_bounds-byte-items-start : goal.slice_bounds-byte-items-start
+slice_bounds-byte-items-start g c = stood bit_character g.row.N _ c.args.bits.now _ _ c.put.ensures c.as_mut_slice.ensures.value _ c.len-start.ensures.value
+
+pub loop-byte-preserved : goal.loop-byte-preserved
+loop-byte-preserved g c = one_more bit_character _ _ _ c.loop-byte.invariant c.loop-byte-test.true c.loop-byte.auto.byte-items _ c.bit_character.ensures
+
+pub returns : goal.returns
+returns g c = end_changed bit_character g.row.N _ c.args.bits.now _ _ c.put.ensures c.as_mut_slice.ensures.value _ _ _ c.len-start.ensures.value (c.loop-byte.invariant, c.loop-byte-test.false)

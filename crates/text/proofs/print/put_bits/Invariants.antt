@@ -1,6 +1,6 @@
-use Rattle.std.proofs.Common.{◌≡◌, map, take}
-use Rattle.wording.specs.Print.{written, bit_character}
+use Rattle.std.proofs.Common.{◌≡◌, ◌++◌, map, take, drop}
+use Rattle.wording.specs.Print.{bit_character}
 use Rattle.text.proofs.print.put_bits.Given as goal
 
-abbrev pub invariant-loop-bit : goal.invariant-loop-bit
-invariant-loop-bit g l = l.out.items ≡ written g.row.N l.fn.out.items (map bit_character (take l.bit-index l.bits))
+abbrev pub invariant-loop-byte : goal.invariant-loop-byte
+invariant-loop-byte g l = l.byte-items ≡ map bit_character (take l.byte-index l.initial.byte-items) ++ drop l.byte-index l.initial.byte-items
