@@ -84,13 +84,15 @@ pub fn needed(cell: &[u32; WORDS], n: usize) -> bool
         })
 }
 
-// How many open lines are of combination 4, 5 or 6.
+// How many open lines are of combination 4, 5 or 6. A sum, for which several lines are looked at in one step; `filter` and `count` would branch at each.
 pub fn common_lines(cell: &[u32; WORDS]) -> u32
     ensures { result ≡ common_lines (cell_of cell.now) }
 {
-    (0..64)
-        .filter(|n| is_common_combination(values_at(cell, *n).combination))
-        .count() as u32
+    let mut count = 0;
+    for n in 0..64 {
+        count += u32::from(is_common_combination(values_at(cell, n).combination));
+    }
+    count
 }
 
 // Some open line is of combination 5.

@@ -1,15 +1,29 @@
--- `common::common_lines` meets its contract: the chain counts the lines that pass. Assumes nothing.
-use mathlib.Core.Path.{refl, ◌∙◌}
-use borrow.Author.Rules.{rules}
-use Rattle.answers.proofs.Ranges.{count_listed}
+-- `common::common_lines` meets its contract: what is counted below n. Assumes nothing.
+use Rattle.std.proofs.Common.{◌≡◌, ℕ, Bool, true, false, cond, refl, ap, ◌∙◌, arith}
+use mir.Val.{bool_byte}
+use Rattle.answers.specs.Search.{count_below}
+use Rattle.answers.proofs.Count.{one_le, count_next}
+use Rattle.rules.specs.Calls.{is_common_combination, is_common_line}
 use Rattle.rules.specs.State.{line_at}
-use Rattle.rules.specs.Calls.{is_common_line}
+use Rattle.rules.specs.declared.Values.{Values}
 use Rattle.storage.specs.Words.{cell_of}
-use Rattle.std.proofs.lemmas.Iterator.{YieldsList-from_range}
-use Rattle.std.proofs.lemmas.Iterator.Consumers.{YieldsList-from_filter, count_from_yields_List}
 use Rattle.placing.proofs.common.common_lines.Goals as goal
 
-pub returns : goal.returns
-returns c =
-    count_from_yields_List _ _ c.count.ensures.ran (YieldsList-from_filter _ (λ k. is_common_line (line_at (cell_of c.args.cell.now) k)) (YieldsList-from_range 0 64 64 c.filter.ensures.source refl) c.filter.ensures.closure (λ x b q k. search rules))
-    ∙ count_listed _ 64
+as_number : (b : Bool) → bool_byte b ≡ cond b 1 0
+as_number true = refl
+as_number false = refl
+
+pub loop-n-init : goal.loop-n-init
+unfolding count_below
+loop-n-init c = (omega arith, refl)
+
+pub loop-n-preserved : goal.loop-n-preserved
+loop-n-preserved c =
+    let l = c.loop-n in
+    let cell = cell_of c.args.cell.now in
+    let one = c.from-count.ensures ∙ as_number _ in
+    let test = c.is_common_combination.ensures ∙ ap (λ (v : Values). is_common_combination v.combination) c.values_at.ensures in
+    let added : c.from-count.result ≡ cond (is_common_line (line_at cell l.n)) 1 0 = one ∙ ap (λ (b : Bool). cond b 1 0) test in
+    let least = one_le (is_common_line (line_at cell l.n)) in
+    let next = count_next (λ (k : ℕ). is_common_line (line_at cell k)) l.n in
+    (omega (arith, l.invariant.0, added, least), omega (arith, l.invariant.1, added, next))
