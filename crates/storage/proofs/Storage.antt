@@ -43,6 +43,14 @@ module _ (words : List ℕ) (n : ℕ) where
   unfolding cell_of
   line_past h = get_or-eq_default (tabulate 64 (line_in words)) no_line (subst (λ (k : ℕ). k ≤ n) (sym (tabulate_length 64 (line_in words))) h)
 
+  -- a number of a line: of the line's words, or 0 past the last line
+  pub line_number : (f : LineState → ℕ) (g : ℕ) → f no_line ≡ 0 → f (line_in words n) ≡ g → f (line_at (cell_of words) n) ≡ cond (ltb 63 n) 0 g
+  line_number f g z e = go (dec_lt 63 n)
+    where
+      go : Dec (63 < n) → f (line_at (cell_of words) n) ≡ cond (ltb 63 n) 0 g
+      go (yes h) = ap f (line_past h) ∙ z ∙ sym (ap (λ (t : Bool). cond t 0 g) (lt-ltb 63 n h))
+      go (no h) = let b : n < 64 = omega arith in ap f (line_stored words n b) ∙ e ∙ sym (ap (λ (t : Bool). cond t 0 g) (le-ltb 63 n (omega arith)))
+
   pub values_in : n < 64 → {mask : ℕ} → mask ≡ word words (place_of n) + 2 ^ 32 * word words (place_of n + 1)
       → ◌≡◌ {A = Values}
       (record { tn = word words (place_of n + 2); mask = mask; hsn = word words (place_of n + 3); maio = word words (place_of n + 4); combination = word words (place_of n + 5); tsc = word words (place_of n + 6) })
@@ -73,11 +81,8 @@ module _ (words : List ℕ) (n : ℕ) where
 
   -- of any line, and past the last one
   pub owner_in : (s : ℕ) → s < 8 → owner_at (line_at (cell_of words) n) s ≡ cond (ltb 63 n) 0 (word words (place_of n + (7 + s)))
-  owner_in s b = go (dec_lt 63 n)
-    where
-      go : Dec (63 < n) → owner_at (line_at (cell_of words) n) s ≡ cond (ltb 63 n) 0 (word words (place_of n + (7 + s)))
-      go (yes h) = no_owner s (inl h) ∙ sym (ap (λ (t : Bool). cond t 0 (word words (place_of n + (7 + s)))) (lt-ltb 63 n h))
-      go (no h) = owner_stored s (omega arith) b ∙ sym (ap (λ (t : Bool). cond t 0 (word words (place_of n + (7 + s)))) (le-ltb 63 n (omega arith)))
+  unfolding line_in
+  owner_in s b = line_number (λ l. owner_at l s) (owners s) refl (tabulate_at 8 owners 0 s b)
 
   pub owner_past : (s : ℕ) → 8 ≤ s → owner_at (line_at (cell_of words) n) s ≡ 0
   owner_past s b = go (dec_lt 63 n)
