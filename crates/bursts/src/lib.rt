@@ -51,14 +51,14 @@ pub fn take<L: WithPayload>(layout: L, burst: &[u8], payload: &mut [u8]) -> Resu
     Ok(())
 }
 
-// Writes a normal burst with this training sequence code and payload. The code is refused before all else.
+// Writes a normal burst with this training sequence code, which is refused before all else, and this payload.
 pub fn build_normal(tsc: u32, payload: &[u8], burst: &mut [u8]) -> Result<(), Refusal>
     ensures { wrote result burst.new ≡ build_normal_of tsc payload.now burst.old }
 {
     build(Normal::new(tsc)?, payload, burst)
 }
 
-// Writes the payload of a normal burst with this training sequence code.
+// Writes the payload of a normal burst with this training sequence code, which is refused before all else.
 pub fn take_normal(tsc: u32, burst: &[u8], payload: &mut [u8]) -> Result<(), Refusal>
     ensures { wrote result payload.new ≡ take_normal_of tsc burst.now payload.old }
 {

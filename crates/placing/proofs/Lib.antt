@@ -1,1 +1,2 @@
 pub mod Found
+pub mod Counted

@@ -88,11 +88,9 @@ pub fn needed(cell: &[u32; WORDS], n: usize) -> bool
 pub fn common_lines(cell: &[u32; WORDS]) -> u32
     ensures { result ≡ common_lines (cell_of cell.now) }
 {
-    let mut count = 0;
-    for n in 0..64 {
-        count += u32::from(is_common_combination(values_at(cell, n).combination));
-    }
-    count
+    (0..64)
+        .map(|n| u32::from(is_common_combination(values_at(cell, n).combination)))
+        .sum()
 }
 
 // Some open line is of combination 5.

@@ -2,7 +2,7 @@
 use crate::output::Text;
 use crate::words::{Figures, last_figures};
 use bursts::{
-    Access, Dummy, FrequencyCorrection, Layout, Synchronization, WithPayload, build_normal,
+    Access, Dummy, FrequencyCorrection, Layout, Normal, Synchronization, WithPayload, build_normal,
     take_normal,
 };
 use replies::{Bits, answer};
@@ -32,11 +32,12 @@ fn taken<L: WithPayload>(out: &mut Text, layout: L, burst: &[u8]) {
     answer(out, done.map(|()| Bits(bits)));
 }
 
-// A normal burst has its training sequence code before the bits. The call refuses a code above 7, before all else.
+// A normal burst has its training sequence code before the bits, which the call refuses before all else. These two differ in the call and in the length,
+// as those above.
 fn built_normal(out: &mut Text, words: &[u8]) -> Result<(), Reason> {
     let ([tsc], rest) = numbers::<1>(words)?;
     let payload: Figures = last_figures(rest)?;
-    let mut bits = [0u8; 148];
+    let mut bits = [0u8; Normal::SIZE];
     let done = build_normal(narrow(tsc), payload.as_slice(), &mut bits);
     answer(out, done.map(|()| Bits(&bits)));
     Ok(())
@@ -45,7 +46,7 @@ fn built_normal(out: &mut Text, words: &[u8]) -> Result<(), Reason> {
 fn taken_normal(out: &mut Text, words: &[u8]) -> Result<(), Reason> {
     let ([tsc], rest) = numbers::<1>(words)?;
     let burst: Figures = last_figures(rest)?;
-    let mut bits = [0u8; 116];
+    let mut bits = [0u8; Normal::ROOM];
     let done = take_normal(narrow(tsc), burst.as_slice(), &mut bits);
     answer(out, done.map(|()| Bits(&bits)));
     Ok(())
