@@ -1,4 +1,4 @@
-// What each answer of the program `schedule` reads like, written to a buffer of fixed size behind what stands there.
+// What each answer of the program `schedule` reads like, written to a buffer behind what stands there: an `ArrayVec`, or a lent slice from a place on.
 #![tactic(auto, using(crate::proofs::Texts::in_turn))]
 
 #[cfg(test)]
@@ -6,63 +6,64 @@ mod tests;
 
 ghost use Rattle.std.specs.Prelude.{ℕ, None, List, [], ◌∷◌, ◌++◌, ◌≡◌, map};
 ghost use Rattle.wording.specs.Words.{ascii};
-ghost use Rattle.wording.specs.Print.{written, spaced, bit_character};
-ghost use Rattle.wording.specs.Replies.{refused_text, answered, tuning_text, parts_text, paging_text, channel_text, place_text, blocks_text, owner_text, content_text, slot_text, found_text, reason_text, error_text};
+ghost use Rattle.wording.specs.Print.{spaced, bit_character};
+ghost use Rattle.wording.specs.Replies.{refused_text, answered, tuning_text, parts_text, paging_text, channel_text, place_text, blocks_text, owner_text, content_text, slot_text, found_text, reason_text, numbered_reason_text, error_with};
+ghost use Rattle.text.specs.Room.{Put};
 
 use answers::Refusal;
-use arrayvec::ArrayVec;
 use clock::Frame;
 use groups::PagingBlock;
 use hops::Tuning;
 use maps::{Blocks, Content, Kind, Place};
 use slots::{Found, OnAir};
 use text::print::{put, put_bits, put_number, put_numbers};
+use text::room::Room;
 use wording::Reason;
 
 // What an accepted call gives, as it is printed behind "ok".
-pub trait Reply<const N: usize> {
+pub trait Reply {
     ghost text: { Self → List ℕ };
 
-    fn print(self, out: &mut ArrayVec<u8, N>)
-        ensures { out.new.items ≡ written N out.old.items (text self) };
+    fn print<B: Room>(self, out: &mut B)
+        ensures { Put (B.buffer out.old) (B.buffer out.new) (text self) };
 }
 
 // Nothing but "ok".
-impl<const N: usize> Reply<N> for () {
+impl Reply for () {
     ghost text = { λ u. [] };
 
-    fn print(self, out: &mut ArrayVec<u8, N>) {}
+    fn print<B: Room>(self, out: &mut B) {}
 }
 
 // A frame number.
-impl<const N: usize> Reply<N> for u32 {
+impl Reply for u32 {
     ghost text = { λ n. spaced (n ∷ []) };
 
-    fn print(self, out: &mut ArrayVec<u8, N>) {
+    fn print<B: Room>(self, out: &mut B) {
         put_numbers(out, &[self]);
     }
 }
 
-impl<const N: usize> Reply<N> for Tuning {
+impl Reply for Tuning {
     ghost text = { tuning_text };
 
-    fn print(self, out: &mut ArrayVec<u8, N>) {
+    fn print<B: Room>(self, out: &mut B) {
         put_numbers(out, &[self.arfcn, self.mai, self.position]);
     }
 }
 
-impl<const N: usize> Reply<N> for PagingBlock {
+impl Reply for PagingBlock {
     ghost text = { paging_text };
 
-    fn print(self, out: &mut ArrayVec<u8, N>) {
+    fn print<B: Room>(self, out: &mut B) {
         put_numbers(out, &[self.tn, self.block, self.frame]);
     }
 }
 
-impl<const N: usize> Reply<N> for Frame {
+impl Reply for Frame {
     ghost text = { parts_text };
 
-    fn print(self, out: &mut ArrayVec<u8, N>) {
+    fn print<B: Room>(self, out: &mut B) {
         put_numbers(out, &[self.t1, self.t2, self.t3]);
         match self.prime() {
             Some(prime) => put_numbers(out, &[prime]),
@@ -71,27 +72,27 @@ impl<const N: usize> Reply<N> for Frame {
     }
 }
 
-impl<const N: usize> Reply<N> for Content {
+impl Reply for Content {
     ghost text = { λ c. content_text c None };
 
-    fn print(self, out: &mut ArrayVec<u8, N>) {
+    fn print<B: Room>(self, out: &mut B) {
         content(out, self, None);
     }
 }
 
-impl<const N: usize> Reply<N> for OnAir {
+impl Reply for OnAir {
     ghost text = { slot_text };
 
-    fn print(self, out: &mut ArrayVec<u8, N>) {
+    fn print<B: Room>(self, out: &mut B) {
         self.tuning.print(out);
         content(out, self.content, Some(self.owner));
     }
 }
 
-impl<const N: usize> Reply<N> for Option<Found> {
+impl Reply for Option<Found> {
     ghost text = { found_text };
 
-    fn print(self, out: &mut ArrayVec<u8, N>) {
+    fn print<B: Room>(self, out: &mut B) {
         match self {
             Some(found) => {
                 put_numbers(out, &[found.line]);
@@ -106,18 +107,18 @@ impl<const N: usize> Reply<N> for Option<Found> {
 #[derive(Clone, Copy)]
 pub struct Bits<'a>(pub &'a [u8]);
 
-impl<'a, const N: usize> Reply<N> for Bits<'a> {
+impl<'a> Reply for Bits<'a> {
     ghost text = { λ b. ascii " " ++ map bit_character b.0.now };
 
-    fn print(self, out: &mut ArrayVec<u8, N>) {
+    fn print<B: Room>(self, out: &mut B) {
         put(out, b" ");
         put_bits(out, self.0);
     }
 }
 
 // "ok" and what an accepted call gives, or the refusal.
-pub fn answer<T: Reply<N>, const N: usize>(out: &mut ArrayVec<u8, N>, answer: Result<T, Refusal>)
-    ensures { out.new.items ≡ written N out.old.items (answered answer T.text) }
+pub fn answer<T: Reply, B: Room>(out: &mut B, answer: Result<T, Refusal>)
+    ensures { Put (B.buffer out.old) (B.buffer out.new) (answered answer T.text) }
 {
     match answer {
         Ok(value) => {
@@ -130,8 +131,8 @@ pub fn answer<T: Reply<N>, const N: usize>(out: &mut ArrayVec<u8, N>, answer: Re
 }
 
 // A refusal, and the value that comes with some.
-pub fn refused<const N: usize>(out: &mut ArrayVec<u8, N>, refusal: Refusal)
-    ensures { out.new.items ≡ written N out.old.items (refused_text refusal) }
+pub fn refused<B: Room>(out: &mut B, refusal: Refusal)
+    ensures { Put (B.buffer out.old) (B.buffer out.new) (refused_text refusal) }
 {
     put(out, b"refused");
     match refusal.value() {
@@ -157,8 +158,8 @@ pub fn channel_name(kind: Kind) -> &'static [u8]
     }
 }
 
-fn owner<const N: usize>(out: &mut ArrayVec<u8, N>, owner: Option<u32>)
-    ensures { out.new.items ≡ written N out.old.items (owner_text owner) }
+fn owner<B: Room>(out: &mut B, owner: Option<u32>)
+    ensures { Put (B.buffer out.old) (B.buffer out.new) (owner_text owner) }
 {
     if let Some(owner) = owner {
         put_numbers(out, &[owner]);
@@ -166,8 +167,8 @@ fn owner<const N: usize>(out: &mut ArrayVec<u8, N>, owner: Option<u32>)
 }
 
 // Idle, or a channel with its subchannel, the owner where it is told, and its blocks.
-fn content<const N: usize>(out: &mut ArrayVec<u8, N>, content: Content, told: Option<u32>)
-    ensures { out.new.items ≡ written N out.old.items (content_text content told) }
+fn content<B: Room>(out: &mut B, content: Content, told: Option<u32>)
+    ensures { Put (B.buffer out.old) (B.buffer out.new) (content_text content told) }
 {
     match content {
         Content::Idle => put(out, b" idle"),
@@ -181,14 +182,14 @@ fn content<const N: usize>(out: &mut ArrayVec<u8, N>, content: Content, told: Op
     }
 }
 
-fn place<const N: usize>(out: &mut ArrayVec<u8, N>, place: Place)
-    ensures { out.new.items ≡ written N out.old.items (place_text place) }
+fn place<B: Room>(out: &mut B, place: Place)
+    ensures { Put (B.buffer out.old) (B.buffer out.new) (place_text place) }
 {
     put_numbers(out, &[place.block, place.place]);
 }
 
-fn blocks<const N: usize>(out: &mut ArrayVec<u8, N>, blocks: Blocks)
-    ensures { out.new.items ≡ written N out.old.items (blocks_text blocks) }
+fn blocks<B: Room>(out: &mut B, blocks: Blocks)
+    ensures { Put (B.buffer out.old) (B.buffer out.new) (blocks_text blocks) }
 {
     match blocks {
         Blocks::One(only) => place(out, only),
@@ -199,29 +200,57 @@ fn blocks<const N: usize>(out: &mut ArrayVec<u8, N>, blocks: Blocks)
     }
 }
 
-// Why a line is no command.
-fn reason_name(reason: Reason) -> &'static [u8]
-    ensures { result.now ≡ reason_text reason }
-{
-    match reason {
-        Reason::UnknownCommand => b"unknown command",
-        Reason::UnknownBurst => b"unknown burst",
-        Reason::TooFewWords => b"too few words",
-        Reason::TooManyWords => b"too many words",
-        Reason::NotANumber => b"not a number",
-        Reason::NumberTooLarge => b"number too large",
-        Reason::CountTooLarge => b"count too large",
-        Reason::LineTooLong => b"line too long",
+// Why a line is no command: a reason, or the number of one.
+pub trait Why {
+    ghost told: { Self → List ℕ };
+
+    fn words(self) -> &'static [u8]
+        ensures { result.now ≡ told self };
+}
+
+impl Why for Reason {
+    ghost told = { reason_text };
+
+    fn words(self) -> &'static [u8] {
+        match self {
+            Reason::UnknownCommand => b"unknown command",
+            Reason::UnknownBurst => b"unknown burst",
+            Reason::TooFewWords => b"too few words",
+            Reason::TooManyWords => b"too many words",
+            Reason::NotANumber => b"not a number",
+            Reason::NumberTooLarge => b"number too large",
+            Reason::CountTooLarge => b"count too large",
+            Reason::LineTooLong => b"line too long",
+        }
+    }
+}
+
+// From 1 on, in the order above; another number has no words.
+impl Why for u32 {
+    ghost told = { numbered_reason_text };
+
+    fn words(self) -> &'static [u8] {
+        match self {
+            1 => Reason::UnknownCommand.words(),
+            2 => Reason::UnknownBurst.words(),
+            3 => Reason::TooFewWords.words(),
+            4 => Reason::TooManyWords.words(),
+            5 => Reason::NotANumber.words(),
+            6 => Reason::NumberTooLarge.words(),
+            7 => Reason::CountTooLarge.words(),
+            8 => Reason::LineTooLong.words(),
+            _ => b"",
+        }
     }
 }
 
 // The answer to a line that is no command.
-pub fn error<const N: usize>(out: &mut ArrayVec<u8, N>, number: u64, reason: Reason)
-    ensures { out.new.items ≡ written N out.old.items (error_text number reason) }
+pub fn error<B: Room, W: Why>(out: &mut B, number: u64, why: W)
+    ensures { Put (B.buffer out.old) (B.buffer out.new) (error_with number (W.told why)) }
 {
     put(out, b"error ");
     put_number(out, number);
     put(out, b" ");
-    put(out, reason_name(reason));
+    put(out, why.words());
     put(out, b"\n");
 }

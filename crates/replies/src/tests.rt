@@ -1,9 +1,10 @@
 // `answer` at the type that each call gives writes the sentence of that call.
 ghost use Rattle.std.specs.Prelude.{◌≡◌};
 ghost use Rattle.wording.specs.Print.{written};
-ghost use Rattle.wording.specs.Replies.{done_text, number_text, hop_text, page_text, split_text, map_text, line_text, who_text, bits_text};
+ghost use Rattle.text.specs.Room.{Appended};
+ghost use Rattle.wording.specs.Replies.{numbered_reason_text, error_with, error_text, done_text, number_text, hop_text, page_text, split_text, map_text, line_text, who_text, bits_text};
 
-use crate::{Bits, answer, refused};
+use crate::{Bits, answer, error, refused};
 use answers::Refusal;
 use arrayvec::ArrayVec;
 use clock::Frame;
@@ -11,6 +12,8 @@ use groups::PagingBlock;
 use hops::Tuning;
 use maps::{Blocks, Burst, Content, Kind, Place};
 use slots::{Found, OnAir};
+use text::room::Lent;
+use wording::Reason;
 
 fn done(out: &mut ArrayVec<u8, 64>, reply: Result<(), Refusal>)
     ensures { out.new.items ≡ written 64 out.old.items (done_text reply) }
@@ -145,4 +148,33 @@ fn lines(rt: HostRuntime) {
         out.as_slice(),
         b"ok idle\nok 2 50 3 4 TCH 0 4714 2 1 1 5\nok nobody\n".as_slice()
     );
+}
+
+fn why(out: &mut ArrayVec<u8, 64>, number: u64, reason: Reason)
+    ensures { out.new.items ≡ written 64 out.old.items (error_text number reason) }
+{
+    error(out, number, reason);
+}
+
+// A reason by its number, to a lent slice from a place on: where it ends.
+fn why_at(out: &mut [u8], at: usize, number: u64, reason: u32) -> usize
+    ensures { Appended out.old at out.new result (error_with number (numbered_reason_text reason)) }
+{
+    let mut lent = Lent { slice: out, at };
+    error(&mut lent, number, reason);
+    lent.end()
+}
+
+#[test]
+fn reasons(rt: HostRuntime) {
+    let mut out = ArrayVec::new();
+    why(&mut out, 12, Reason::TooFewWords);
+    assert_eq!(rt; out.as_slice(), b"error 12 too few words\n".as_slice());
+    let mut slice = [b'.'; 26];
+    assert_eq!(rt; why_at(&mut slice, 2, 12, 3), 25);
+    assert_eq!(rt; slice.as_slice(), b"..error 12 too few words\n.".as_slice());
+    assert_eq!(rt; why_at(&mut slice, 24, 12, 8), 26);
+    assert_eq!(rt; slice.as_slice(), b"..error 12 too few wordser".as_slice());
+    assert_eq!(rt; why_at(&mut slice, 0, 7, 9), 9);
+    assert_eq!(rt; slice.as_slice(), b"error 7 \n2 too few wordser".as_slice());
 }

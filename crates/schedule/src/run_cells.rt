@@ -95,7 +95,8 @@ pub(crate) fn who(out: &mut Text, cell: &Cell, words: &[u8]) -> Result<(), Reaso
 pub(crate) fn page(out: &mut Text, cell: &Cell, words: &[u8]) -> Result<(), Reason> {
     let (imsi, rest) = next_word(words).ok_or(Reason::TooFewWords)?;
     let [number] = only::<1>(rest)?;
-    let digits: Figures = figures(imsi);
+    let mut digits = Figures::new();
+    figures(imsi, &mut digits);
     answer(out, cell::page(cell, digits.as_slice(), narrow(number)));
     Ok(())
 }

@@ -11,5 +11,7 @@ pub(crate) type Figures = ArrayVec<u8, 256>;
 pub(crate) fn last_figures(words: &[u8]) -> Result<Figures, Reason> {
     let (word, rest) = next_word(words).ok_or(Reason::TooFewWords)?;
     let [] = only::<0>(rest)?;
-    Ok(figures(word))
+    let mut digits = Figures::new();
+    figures(word, &mut digits);
+    Ok(digits)
 }

@@ -1,8 +1,8 @@
 -- A turn of the loops that write. Assumes nothing.
-use Rattle.std.proofs.Common.{◌≡◌, ℕ, ◌+◌, ◌<◌, min, List, [], ◌∷◌, ◌++◌, length, take, map, replicate, get_or, refl, sym, ap, ◌∙◌, append_assoc, append-nil, add-one, arith}
+use Rattle.std.proofs.Common.{◌≡◌, ℕ, ◌+◌, ◌-◌, ◌<◌, min, List, [], ◌∷◌, ◌++◌, length, take, map, replicate, get_or, refl, sym, ap, ◌∙◌, append_assoc, append-nil, add-one, arith}
 use Rattle.std.proofs.Math.Seq.{take-suc}
 use Rattle.std.proofs.lemmas.List.{length-replicate, take-replicate}
-use Rattle.wording.specs.Print.{written, decimal_of, spaced}
+use Rattle.wording.specs.Print.{written, decimal_of, right, left, spaced}
 use Rattle.wording.proofs.Written.{written_whole, written-take}
 
 take_more : (l : List ℕ) (i : ℕ) → i < length l → take (i + 1) l ≡ take i l ++ get_or l i 0 ∷ []
@@ -24,6 +24,17 @@ pub spaced_more : (l : List ℕ) (i : ℕ) → i < length l → spaced (take i l
 unfolding spaced
 spaced_more l i h =
     sym (ap spaced (take_more l i h) ∙ spaced-append (take i l) (get_or l i 0 ∷ []) ∙ ap (λ (s : List ℕ). spaced (take i l) ++ s) (append-nil (32 ∷ decimal_of (get_or l i 0))))
+
+-- a number in a column, with as many spaces as its text lacks
+module _ (width spaces : ℕ) {s t : List ℕ} (text : s ≡ t) (lacking : spaces ≡ width - length s) where
+  blanks : replicate {A = ℕ} spaces 32 ≡ replicate {A = ℕ} (width - length t) 32
+  blanks = ap (λ (n : ℕ). replicate {A = ℕ} n 32) (lacking ∙ ap (λ (r : List ℕ). width - length r) text)
+
+  pub to_the_right : replicate spaces 32 ++ s ≡ right width t
+  to_the_right = ap (λ (r : List ℕ). r ++ s) blanks ∙ ap (λ (r : List ℕ). replicate (width - length t) 32 ++ r) text
+
+  pub to_the_left : s ++ replicate spaces 32 ≡ left width t
+  to_the_left = ap (λ (r : List ℕ). r ++ replicate spaces 32) text ∙ ap (λ (r : List ℕ). t ++ r) blanks
 
 -- as many of a byte as have room
 pub replicate_fits : (room : ℕ) (before : List ℕ) (r n m x : ℕ) → r + length before ≡ room → n ≡ min r m → written room before (replicate n x) ≡ written room before (replicate m x)

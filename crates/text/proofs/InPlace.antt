@@ -23,7 +23,7 @@ module _ (f : ℕ → ℕ) (xs ys : List ℕ) (i : ℕ) (inv : ys ≡ map f (tak
       let within : i < length ys = omega (arith, b, same) in
       ap (set ys i) e ∙ map_over_more f xs ys i (get_or ys i 0) b inv (get_or_default ys i 0 (get_or ys i 0) within)
 
-  all_changed : length xs ≤ i → ys ≡ map f xs
+  pub all_changed : length xs ≤ i → ys ≡ map f xs
   all_changed h =
       inv
       ∙ ap (λ (l : List ℕ). map f (take i xs) ++ l) (drop_all i xs h)

@@ -2,10 +2,11 @@
 ghost use Rattle.std.specs.Prelude.{◌≡◌, map, take};
 ghost use Rattle.wording.specs.Words.{words_of};
 ghost use Rattle.wording.specs.Numbers.{is_number, value_from, within, number_of, answer_by, numbers_in, only_of, list_filled, parameter, figure};
+ghost use Rattle.text.specs.Room.{Kept};
 
-use crate::print::put;
+use crate::entries::Entries;
+use crate::room::{Change, Room};
 use crate::words::next_word;
-use arrayvec::ArrayVec;
 use wording::Reason;
 
 // One digit or more, and nothing else.
@@ -76,8 +77,8 @@ pub fn narrow(n: u64) -> u32
 }
 
 // The numbers that all the words are, each as 16 bits hold it, in place of what the list had. On an error it has those of the words before the one at fault.
-pub fn list<const N: usize>(line: &[u8], out: &mut ArrayVec<u16, N>) -> Result<(), Reason>
-    ensures { (result, out.new.items) ≡ list_filled N (words_of line.now) }
+pub fn list<E: Entries>(line: &[u8], out: &mut E) -> Result<(), Reason>
+    ensures { ((result, (E.buffer out.new).items) ≡ list_filled (E.buffer out.old).room (words_of line.now)) × Kept (E.buffer out.old) (E.buffer out.new) }
 {
     out.clear();
     let mut rest = line;
@@ -92,21 +93,20 @@ pub fn list<const N: usize>(line: &[u8], out: &mut ArrayVec<u16, N>) -> Result<(
 }
 
 // What a character of an IMSI or of bits goes in as: what is no digit as 255, which the calls refuse.
-fn figure_of(c: u8) -> u8
-    ensures { result ≡ figure c }
-{
-    if c.is_ascii_digit() { c - b'0' } else { 255 }
+struct Figure;
+
+impl Change for Figure {
+    ghost changed = { figure };
+
+    fn change(c: u8) -> u8 {
+        if c.is_ascii_digit() { c - b'0' } else { 255 }
+    }
 }
 
-// The characters of a word as numbers, as many as there is room for. They are copied whole and changed where they stand, many in one step; one by one would
-// take twice as long.
-pub fn figures<const N: usize>(word: &[u8]) -> ArrayVec<u8, N>
-    ensures { result.items ≡ take N (map figure word.now) }
+// The characters of a word as numbers, as many as there is room for, in place of what stood there.
+pub fn figures<B: Room>(word: &[u8], out: &mut B)
+    ensures { ((B.buffer out.new).items ≡ take (B.buffer out.old).room (map figure word.now)) × Kept (B.buffer out.old) (B.buffer out.new) }
 {
-    let mut figures = ArrayVec::new();
-    put(&mut figures, word);
-    for c in figures.as_mut_slice() {
-        *c = figure_of(*c);
-    }
-    figures
+    out.clear();
+    out.put_each::<Figure>(word);
 }

@@ -1,42 +1,43 @@
-// What is written to a buffer of fixed size, behind what stands there. What has no room is left out, so nothing can fail.
+// What is written to a buffer, behind what stands there: an `ArrayVec`, or a lent slice from a place on (room.rt). What has no room is left out, so nothing can fail.
 ghost use Rattle.std.specs.Prelude.{◌≡◌, [], ◌∷◌, map, replicate};
-ghost use Rattle.wording.specs.Print.{written, decimal_of, right, left, spaced, bit_character};
+ghost use Rattle.wording.specs.Print.{decimal_of, right, left, spaced, bit_character};
+ghost use Rattle.text.specs.Room.{Put};
 
-use arrayvec::ArrayVec;
+use crate::room::{Change, Room};
 use itoa::Buffer;
 
-pub fn put<const N: usize>(out: &mut ArrayVec<u8, N>, text: &[u8])
-    ensures { out.new.items ≡ written N out.old.items text.now }
+#[inline]
+pub fn put<B: Room>(out: &mut B, text: &[u8])
+    ensures { Put (B.buffer out.old) (B.buffer out.new) text.now }
 {
-    let fits = out.remaining_capacity().min(text.len());
-    let _ = out.try_extend_from_slice(&text[..fits]);
+    out.put(text);
 }
 
 #[inline]
-pub fn put_byte<const N: usize>(out: &mut ArrayVec<u8, N>, byte: u8)
-    ensures { out.new.items ≡ written N out.old.items (byte ∷ []) }
+pub fn put_byte<B: Room>(out: &mut B, byte: u8)
+    ensures { Put (B.buffer out.old) (B.buffer out.new) (byte ∷ []) }
 {
-    let _ = out.try_push(byte);
+    out.put_byte(byte);
 }
 
-pub fn put_spaces<const N: usize>(out: &mut ArrayVec<u8, N>, count: usize)
-    ensures { out.new.items ≡ written N out.old.items (replicate count 32) }
+pub fn put_spaces<B: Room>(out: &mut B, count: usize)
+    ensures { Put (B.buffer out.old) (B.buffer out.new) (replicate count 32) }
 {
-    for _ in 0..out.remaining_capacity().min(count) {
+    for _ in 0..out.left().min(count) {
         put_byte(out, b' ');
     }
 }
 
 // A number in decimal.
-pub fn put_number<const N: usize>(out: &mut ArrayVec<u8, N>, n: u64)
-    ensures { out.new.items ≡ written N out.old.items (decimal_of n) }
+pub fn put_number<B: Room>(out: &mut B, n: u64)
+    ensures { Put (B.buffer out.old) (B.buffer out.new) (decimal_of n) }
 {
     put(out, Buffer::new().format(n).as_bytes());
 }
 
 // A number with spaces before it, up to `width` characters.
-pub fn put_right<const N: usize>(out: &mut ArrayVec<u8, N>, n: u64, width: usize)
-    ensures { out.new.items ≡ written N out.old.items (right width (decimal_of n)) }
+pub fn put_right<B: Room>(out: &mut B, n: u64, width: usize)
+    ensures { Put (B.buffer out.old) (B.buffer out.new) (right width (decimal_of n)) }
 {
     let mut buffer = Buffer::new();
     let text = buffer.format(n).as_bytes();
@@ -45,8 +46,8 @@ pub fn put_right<const N: usize>(out: &mut ArrayVec<u8, N>, n: u64, width: usize
 }
 
 // A number with spaces after it, up to `width` characters.
-pub fn put_left<const N: usize>(out: &mut ArrayVec<u8, N>, n: u64, width: usize)
-    ensures { out.new.items ≡ written N out.old.items (left width (decimal_of n)) }
+pub fn put_left<B: Room>(out: &mut B, n: u64, width: usize)
+    ensures { Put (B.buffer out.old) (B.buffer out.new) (left width (decimal_of n)) }
 {
     let mut buffer = Buffer::new();
     let text = buffer.format(n).as_bytes();
@@ -55,8 +56,8 @@ pub fn put_left<const N: usize>(out: &mut ArrayVec<u8, N>, n: u64, width: usize)
 }
 
 // Numbers with a space before each.
-pub fn put_numbers<const N: usize>(out: &mut ArrayVec<u8, N>, list: &[u32])
-    ensures { out.new.items ≡ written N out.old.items (spaced list.now) }
+pub fn put_numbers<B: Room>(out: &mut B, list: &[u32])
+    ensures { Put (B.buffer out.old) (B.buffer out.new) (spaced list.now) }
 {
     for &n in list {
         put_byte(out, b' ');
@@ -64,20 +65,20 @@ pub fn put_numbers<const N: usize>(out: &mut ArrayVec<u8, N>, list: &[u32])
     }
 }
 
-// A bit as a character.
-fn bit_character(bit: u8) -> u8
-    ensures { result ≡ bit_character bit }
-{
-    if bit == 0 { b'0' } else { b'1' }
+// Bits as characters.
+struct BitCharacter;
+
+impl Change for BitCharacter {
+    ghost changed = { bit_character };
+
+    fn change(bit: u8) -> u8 {
+        if bit == 0 { b'0' } else { b'1' }
+    }
 }
 
-// Bits, a character for each: copied whole and changed where they stand, as `figures` does.
-pub fn put_bits<const N: usize>(out: &mut ArrayVec<u8, N>, bits: &[u8])
-    ensures { out.new.items ≡ written N out.old.items (map bit_character bits.now) }
+// Bits, a character for each.
+pub fn put_bits<B: Room>(out: &mut B, bits: &[u8])
+    ensures { Put (B.buffer out.old) (B.buffer out.new) (map bit_character bits.now) }
 {
-    let start = out.len();
-    put(out, bits);
-    for byte in &mut out.as_mut_slice()[start..] {
-        *byte = bit_character(*byte);
-    }
+    out.put_each::<BitCharacter>(bits);
 }

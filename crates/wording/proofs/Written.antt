@@ -9,7 +9,7 @@ take-nothing zero = refl
 take-nothing (suc n) = refl
 
 -- what a text leaves of the room, another takes
-take-append : (n : ℕ) (s t : List ℕ) → take n (s ++ t) ≡ take n s ++ take (n - length s) t
+pub take-append : (n : ℕ) (s t : List ℕ) → take n (s ++ t) ≡ take n s ++ take (n - length s) t
 take-append zero s t = let e : 0 ≡ 0 - length s = omega arith in ap (λ (n : ℕ). take n t) e
 take-append (suc n) [] t = let e : suc n ≡ suc n - 0 = omega arith in ap (λ (k : ℕ). take k t) e
 take-append (suc n) (x ∷ s) t = let e : n - length s ≡ suc n - suc (length s) = omega arith in ap (λ (r : List ℕ). x ∷ r) (take-append n s t) ∙ ap (λ (k : ℕ). (x ∷ take n s) ++ take k t) e

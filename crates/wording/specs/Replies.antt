@@ -1,5 +1,5 @@
 -- What each answer reads like, in the words of the format's table. Assumes nothing.
-use Rattle.std.specs.Prelude.{ℕ, Some, None, Result, Ok, Err, List, [], ◌∷◌, ◌++◌, map}
+use Rattle.std.specs.Prelude.{ℕ, Some, None, Result, Ok, Err, List, [], ◌∷◌, ◌++◌, map, get_or}
 use Rattle.std.specs.Prelude.{Option as MayBe}
 use Rattle.std.proofs.Math.Option.{Option, none, some}
 use Rattle.answers.specs.declared.Refusal.{Refusal}
@@ -128,6 +128,16 @@ reason_text NumberTooLarge = ascii "number too large"
 reason_text CountTooLarge = ascii "count too large"
 reason_text LineTooLong = ascii "line too long"
 
+-- the reasons, numbered from 1 on; another number has no words
+abbrev pub reasons : List Reason
+reasons = UnknownCommand ∷ UnknownBurst ∷ TooFewWords ∷ TooManyWords ∷ NotANumber ∷ NumberTooLarge ∷ CountTooLarge ∷ LineTooLong ∷ []
+
+abbrev pub numbered_reason_text : ℕ → List ℕ
+numbered_reason_text n = get_or ([] ∷ map reason_text reasons) n []
+
 -- "`error LINENUMBER REASON`"
+abbrev pub error_with : ℕ → List ℕ → List ℕ
+error_with number words = ascii "error " ++ decimal_of number ++ ascii " " ++ words ++ ascii "\n"
+
 abbrev pub error_text : ℕ → Reason → List ℕ
-error_text number reason = ascii "error " ++ decimal_of number ++ ascii " " ++ reason_text reason ++ ascii "\n"
+error_text number reason = error_with number (reason_text reason)

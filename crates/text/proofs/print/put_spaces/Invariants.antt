@@ -1,6 +1,6 @@
-use Rattle.std.proofs.Common.{◌≡◌, replicate}
-use Rattle.wording.specs.Print.{written}
+use Rattle.std.proofs.Common.{replicate}
+use Rattle.text.specs.Room.{Put}
 use Rattle.text.proofs.print.put_spaces.Given as goal
 
 abbrev pub invariant-loop : goal.invariant-loop
-invariant-loop g l = l.out.items ≡ written g.row.N l.fn.out.items (replicate l.counter 32)
+invariant-loop g l = Put (g.B.Room.buffer l.fn.out) (g.B.Room.buffer l.out) (replicate l.counter 32)

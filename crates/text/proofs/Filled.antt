@@ -1,0 +1,52 @@
+-- What a lent slice has before its place after a text was put there. Assumes nothing.
+use Rattle.std.proofs.Common.{◌≡◌, ℕ, ◌+◌, ◌-◌, ◌<◌, ◌≤◌, min, List, [], ◌∷◌, ◌++◌, length, take, set, map, add-one, sym, ap, ◌∙◌, append_assoc, arith, length-append}
+use Rattle.std.proofs.lemmas.List.{length-take, length-map, take_min, take_at, take-map}
+use lib.Seq.{take_all}
+use Rattle.std.proofs.Math.Seq.{take-suc-set}
+use Rattle.wording.specs.Print.{written}
+use Rattle.wording.proofs.Written.{take-append, written_whole, written-full, written-take}
+use Rattle.text.specs.Room.{Appended}
+
+module _ (slice text : List ℕ) (at start fits : ℕ) (first : start ≡ min at (length slice)) (most : fits ≡ min (length slice - start) (length text)) where
+  before : take start slice ≡ take at slice
+  before = ap (λ (n : ℕ). take n slice) first ∙ take_min at slice
+
+  size : length (take start slice) ≡ start
+  size = length-take start slice ∙ omega (arith, first)
+
+  pub filled : (put rest : List ℕ) → put ≡ take fits text → take (start + fits) (take start slice ++ (put ++ rest)) ≡ written (length slice) (take at slice) text
+  filled put rest e =
+      let long : length put ≡ fits = ap length e ∙ length-take fits text ∙ omega (arith, most) in
+      let whole : length (take start slice ++ put) ≡ start + fits = length-append (take start slice) put ∙ omega (arith, size, long) in
+      ap (take (start + fits)) (sym (append_assoc (take start slice) put rest))
+      ∙ take_at (take start slice ++ put) rest (start + fits) whole
+      ∙ ap (λ (s : List ℕ). take start slice ++ s) e
+      ∙ written-take (length slice) (take start slice) text fits (omega (arith, size, most))
+      ∙ ap (λ (s : List ℕ). written (length slice) s text) before
+
+-- with each byte changed
+pub filled_each : (f : ℕ → ℕ) (slice text : List ℕ) (at start fits : ℕ) → start ≡ min at (length slice) → fits ≡ min (length slice - start) (length text)
+    → (put rest : List ℕ) → put ≡ map f (take fits text) → take (start + fits) (take start slice ++ (put ++ rest)) ≡ written (length slice) (take at slice) (map f text)
+filled_each f slice text at start fits first most put rest e =
+    filled slice (map f text) at start fits first (omega (arith, most, length-map text f)) put rest (e ∙ sym (take-map f fits text))
+
+-- one more, where there is room for it, and where there is none
+pub one_filled : (slice : List ℕ) (at x : ℕ) → at < length slice → take (at + 1) (set slice at x) ≡ written (length slice) (take at slice) (x ∷ [])
+one_filled slice at x h = rw (add-one at) (take-suc-set slice at x h) ∙ sym (written_whole (length slice) (take at slice) (x ∷ []) (omega (arith, h, length-take at slice)))
+
+pub none_filled : (slice : List ℕ) (at x : ℕ) → length slice ≤ at → take at slice ≡ written (length slice) (take at slice) (x ∷ [])
+none_filled slice at x h = sym (written-full (length slice) (take at slice) (x ∷ []) (omega (arith, h, length-take at slice)))
+
+-- as a lent slice and a place tell it
+pub appended : (before after text : List ℕ) (at place end : ℕ) → take place after ≡ written (length before) (take at before) text → length after ≡ length before
+    → end ≡ min place (length after) → Appended before at after end text
+unfolding written
+appended before after text at place end put same e =
+    let fits : length (take at before) ≤ length before = omega (arith, length-take at before) in
+    record {
+      same_length = same;
+      inside = omega (arith, e);
+      written = ap (λ (n : ℕ). take n after) e ∙ take_min place after ∙ put
+        ∙ ap (λ (s : List ℕ). s ++ take (length before - length (take at before)) text) (sym (take_all (length before) (take at before) fits))
+        ∙ sym (take-append (length before) (take at before) text)
+    }

@@ -1,7 +1,0 @@
-use Rattle.std.proofs.Common.{arith}
-use Rattle.std.proofs.lemmas.Grind.{common_steps}
-use Rattle.wording.proofs.Written.{written-take}
-use Rattle.text.proofs.print.put.Goals as goal
-
-pub returns : goal.returns
-returns g c = grind (arith, common_steps, written-take g.row.N c.args.out.now.items c.args.text.now c.min-fits.result)

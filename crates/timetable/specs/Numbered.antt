@@ -1,0 +1,35 @@
+-- What a line has in a frame, of the numbers that C gets for it, whatever they are. Assumes nothing.
+use Rattle.std.specs.Prelude.{ℕ, cond, List, [], ◌∷◌, ◌++◌, eqb, ltb, map, get_or}
+use Rattle.c_answers.specs.declared.TdmaLine.{TdmaLine}
+use Rattle.maps.specs.declared.Kind.{Kind}
+use Rattle.maps.specs.declared.Kind.TheVariants.{Tch, Sacch, Sdcch, Fcch, Sch, Bcch, Ccch, Rach}
+use Rattle.maps.specs.declared.Place.{Place}
+use Rattle.wording.specs.Words.{ascii}
+use Rattle.wording.specs.Print.{decimal_of, right, left}
+use Rattle.wording.specs.Replies.{channel_text}
+use Rattle.wording.specs.Table.{owner_text, block_text}
+
+-- the channels, numbered from 1 on; another number has no name
+abbrev pub kinds : List Kind
+kinds = Tch ∷ Sacch ∷ Sdcch ∷ Fcch ∷ Sch ∷ Bcch ∷ Ccch ∷ Rach ∷ []
+
+abbrev pub numbered_name : ℕ → List ℕ
+numbered_name n = get_or ([] ∷ map channel_text kinds) n []
+
+-- the subchannel and its owner; a common part has neither, nor has a number that no channel has
+abbrev pub numbered_holder_text : TdmaLine → List ℕ
+numbered_holder_text a = cond (ltb 3 a.channel) (ascii "-     -") (decimal_of a.subchannel ++ owner_text a.owner)
+
+-- the second block and place where there are two, up to the cell's edge
+abbrev pub numbered_columns_text : TdmaLine → List ℕ
+numbered_columns_text a =
+    cond (eqb a.blocks 2) (block_text (record { block = a.block; place = a.place }) ++ block_text (record { block = a.block2; place = a.place2 }) ++ ascii " |")
+    (block_text (record { block = a.block; place = a.place }) ++ ascii "      |")
+
+-- idle, or a channel: its name, the subchannel and its owner, block and place
+abbrev pub numbered_shown_text : TdmaLine → List ℕ
+numbered_shown_text a = cond (eqb a.channel 0) (ascii "idle                    |") (left 5 (numbered_name a.channel) ++ ascii " " ++ numbered_holder_text a ++ numbered_columns_text a)
+
+-- what a line has in a frame: its ARFCN, and idle or the channel
+abbrev pub numbered_cell_text : TdmaLine → List ℕ
+numbered_cell_text a = right 6 (decimal_of a.arfcn) ++ ascii " " ++ numbered_shown_text a
