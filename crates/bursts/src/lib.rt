@@ -52,6 +52,7 @@ pub fn take<L: WithPayload>(layout: L, burst: &[u8], payload: &mut [u8]) -> Resu
 }
 
 // Writes a normal burst with this training sequence code, which is refused before all else, and this payload.
+#[tactic(auto, using(layouts::proofs::NormalCalls::normal_calls))]
 pub fn build_normal(tsc: u32, payload: &[u8], burst: &mut [u8]) -> Result<(), Refusal>
     ensures { wrote result burst.new ≡ build_normal_of tsc payload.now burst.old }
 {
@@ -59,6 +60,7 @@ pub fn build_normal(tsc: u32, payload: &[u8], burst: &mut [u8]) -> Result<(), Re
 }
 
 // Writes the payload of a normal burst with this training sequence code, which is refused before all else.
+#[tactic(auto, using(layouts::proofs::NormalCalls::normal_calls))]
 pub fn take_normal(tsc: u32, burst: &[u8], payload: &mut [u8]) -> Result<(), Refusal>
     ensures { wrote result payload.new ≡ take_normal_of tsc burst.now payload.old }
 {
