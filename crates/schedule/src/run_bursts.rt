@@ -7,6 +7,7 @@ use bursts::{
 };
 use replies::{Bits, answer};
 use text::numbers::{narrow, numbers, only};
+use text::wanted::Exactly;
 use text::words::next_word;
 use wording::{BurstName, Reason};
 
@@ -35,7 +36,7 @@ fn taken<L: WithPayload>(out: &mut Text, layout: L, burst: &[u8]) {
 // A normal burst has its training sequence code before the bits, which the call refuses before all else. These two differ in the call and in the length,
 // as those above.
 fn built_normal(out: &mut Text, words: &[u8]) -> Result<(), Reason> {
-    let ([tsc], rest) = numbers::<1>(words)?;
+    let ([tsc], rest) = numbers(words, Exactly::<1>)?;
     let payload: Figures = last_figures(rest)?;
     let mut bits = [0u8; Normal::SIZE];
     let done = build_normal(narrow(tsc), payload.as_slice(), &mut bits);
@@ -44,7 +45,7 @@ fn built_normal(out: &mut Text, words: &[u8]) -> Result<(), Reason> {
 }
 
 fn taken_normal(out: &mut Text, words: &[u8]) -> Result<(), Reason> {
-    let ([tsc], rest) = numbers::<1>(words)?;
+    let ([tsc], rest) = numbers(words, Exactly::<1>)?;
     let burst: Figures = last_figures(rest)?;
     let mut bits = [0u8; Normal::ROOM];
     let done = take_normal(narrow(tsc), burst.as_slice(), &mut bits);
@@ -61,11 +62,11 @@ pub(crate) fn build(out: &mut Text, words: &[u8]) -> Result<(), Reason> {
         }
         BurstName::Access => built(out, Access, last_figures(rest)?.as_slice()),
         BurstName::FrequencyCorrection => {
-            let [] = only::<0>(rest)?;
+            let [] = only(rest, Exactly::<0>)?;
             built(out, FrequencyCorrection, &[]);
         }
         BurstName::Dummy => {
-            let [] = only::<0>(rest)?;
+            let [] = only(rest, Exactly::<0>)?;
             built(out, Dummy, &[]);
         }
     }

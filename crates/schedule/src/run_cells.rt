@@ -7,6 +7,7 @@ use replies::answer;
 use rules::{Parameters, Values};
 use storage::WORDS;
 use text::numbers::{figures, list, narrow, numbers, only};
+use text::wanted::Exactly;
 use text::words::next_word;
 use wording::Reason;
 
@@ -18,7 +19,7 @@ pub(crate) fn start(
     ca: &mut ArrayVec<u16, 32768>,
     words: &[u8],
 ) -> Result<(), Reason> {
-    let ([c0, bcc, ag, p], rest) = numbers::<4>(words)?;
+    let ([c0, bcc, ag, p], rest) = numbers(words, Exactly::<4>)?;
     list(rest, ca)?;
     let parameters = Parameters {
         c0: narrow(c0),
@@ -31,7 +32,7 @@ pub(crate) fn start(
 }
 
 pub(crate) fn open(out: &mut Text, cell: &mut Cell, words: &[u8]) -> Result<(), Reason> {
-    let [line, tn, mask, hsn, maio, combination, tsc] = only::<7>(words)?;
+    let [line, tn, mask, hsn, maio, combination, tsc] = only(words, Exactly::<7>)?;
     let values = Values {
         tn: narrow(tn),
         mask,
@@ -45,13 +46,13 @@ pub(crate) fn open(out: &mut Text, cell: &mut Cell, words: &[u8]) -> Result<(), 
 }
 
 pub(crate) fn close(out: &mut Text, cell: &mut Cell, words: &[u8]) -> Result<(), Reason> {
-    let [line] = only::<1>(words)?;
+    let [line] = only(words, Exactly::<1>)?;
     answer(out, cell::close(cell, narrow(line)));
     Ok(())
 }
 
 pub(crate) fn seize(out: &mut Text, cell: &mut Cell, words: &[u8]) -> Result<(), Reason> {
-    let [line, s, owner] = only::<3>(words)?;
+    let [line, s, owner] = only(words, Exactly::<3>)?;
     answer(
         out,
         cell::seize(cell, narrow(line), narrow(s), narrow(owner)),
@@ -60,7 +61,7 @@ pub(crate) fn seize(out: &mut Text, cell: &mut Cell, words: &[u8]) -> Result<(),
 }
 
 pub(crate) fn release(out: &mut Text, cell: &mut Cell, words: &[u8]) -> Result<(), Reason> {
-    let [line, s, owner] = only::<3>(words)?;
+    let [line, s, owner] = only(words, Exactly::<3>)?;
     answer(
         out,
         cell::release(cell, narrow(line), narrow(s), narrow(owner)),
@@ -69,7 +70,7 @@ pub(crate) fn release(out: &mut Text, cell: &mut Cell, words: &[u8]) -> Result<(
 }
 
 pub(crate) fn line(out: &mut Text, cell: &Cell, words: &[u8]) -> Result<(), Reason> {
-    let [line, number, direction] = only::<3>(words)?;
+    let [line, number, direction] = only(words, Exactly::<3>)?;
     answer(
         out,
         onair::line(cell, narrow(line), narrow(number), narrow(direction)),
@@ -78,7 +79,7 @@ pub(crate) fn line(out: &mut Text, cell: &Cell, words: &[u8]) -> Result<(), Reas
 }
 
 pub(crate) fn who(out: &mut Text, cell: &Cell, words: &[u8]) -> Result<(), Reason> {
-    let [tn, arfcn, number, direction] = only::<4>(words)?;
+    let [tn, arfcn, number, direction] = only(words, Exactly::<4>)?;
     answer(
         out,
         onair::who(
@@ -94,7 +95,7 @@ pub(crate) fn who(out: &mut Text, cell: &Cell, words: &[u8]) -> Result<(), Reaso
 
 pub(crate) fn page(out: &mut Text, cell: &Cell, words: &[u8]) -> Result<(), Reason> {
     let (imsi, rest) = next_word(words).ok_or(Reason::TooFewWords)?;
-    let [number] = only::<1>(rest)?;
+    let [number] = only(rest, Exactly::<1>)?;
     let mut digits = Figures::new();
     figures(imsi, &mut digits);
     answer(out, cell::page(cell, digits.as_slice(), narrow(number)));

@@ -4,16 +4,17 @@ use arrayvec::ArrayVec;
 use clock::Frame;
 use replies::answer;
 use text::numbers::{list, narrow, numbers, only};
+use text::wanted::Exactly;
 use wording::Reason;
 
 pub(crate) fn split(out: &mut Text, words: &[u8]) -> Result<(), Reason> {
-    let [number] = only::<1>(words)?;
+    let [number] = only(words, Exactly::<1>)?;
     answer(out, Frame::new(narrow(number)));
     Ok(())
 }
 
 pub(crate) fn join(out: &mut Text, words: &[u8]) -> Result<(), Reason> {
-    let [t1, t2, t3] = only::<3>(words)?;
+    let [t1, t2, t3] = only(words, Exactly::<3>)?;
     answer(out, Frame::join(narrow(t1), narrow(t2), narrow(t3)));
     Ok(())
 }
@@ -23,7 +24,7 @@ pub(crate) fn hop(
     ca: &mut ArrayVec<u16, 32768>,
     words: &[u8],
 ) -> Result<(), Reason> {
-    let ([mask, hsn, maio, number], rest) = numbers::<4>(words)?;
+    let ([mask, hsn, maio, number], rest) = numbers(words, Exactly::<4>)?;
     list(rest, ca)?;
     answer(
         out,
@@ -39,7 +40,7 @@ pub(crate) fn hop(
 }
 
 pub(crate) fn map(out: &mut Text, words: &[u8]) -> Result<(), Reason> {
-    let [combination, tn, number, direction] = only::<4>(words)?;
+    let [combination, tn, number, direction] = only(words, Exactly::<4>)?;
     answer(
         out,
         frame_map::map(

@@ -7,6 +7,7 @@ use replies::refused;
 use storage::WORDS;
 use text::numbers::{narrow, only};
 use text::print::{put, put_numbers};
+use text::wanted::Exactly;
 use wording::Reason;
 
 // What is asked: the frames of a cell's timeslot, from the first one on.
@@ -106,7 +107,7 @@ fn subtitles(output: &mut Output, lines: &[u32]) {
 }
 
 pub(crate) fn table(output: &mut Output, cell: &[u32; WORDS], words: &[u8]) -> Result<(), Reason> {
-    let [tn, direction, first, frames] = only::<4>(words)?;
+    let [tn, direction, first, frames] = only(words, Exactly::<4>)?;
     let timetable = Timetable {
         cell,
         tn: narrow(tn),

@@ -47,6 +47,6 @@ appended before after text at place end put same e =
       same_length = same;
       inside = omega (arith, e);
       written = ap (λ (n : ℕ). take n after) e ∙ take_min place after ∙ put
-        ∙ ap (λ (s : List ℕ). s ++ take (length before - length (take at before)) text) (sym (take_all (length before) (take at before) fits))
-        ∙ sym (take-append (length before) (take at before) text)
+          ∙ ap (λ (s : List ℕ). s ++ take (length before - length (take at before)) text) (sym (take_all (length before) (take at before) fits))
+          ∙ sym (take-append (length before) (take at before) text);
     }

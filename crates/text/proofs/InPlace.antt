@@ -64,15 +64,3 @@ module _ (f : ℕ → ℕ) (room : ℕ) (before text items all : List ℕ) (put 
       ap (refill (length items) items) whole
       ∙ refilled items (before ++ map f fits) long
       ∙ ap (λ (l : List ℕ). before ++ l) (sym (take-map f (room - length before) text))
-
-  -- all of it, where nothing stood
-  pub first_changed : (i : ℕ) (changed : List ℕ) → before ≡ [] → changed ≡ map f (take i all) ++ drop i all → length all ≤ i
-      → refill (length items) items changed ≡ take room (map f text)
-  first_changed i changed none inv h =
-      let whole : room - 0 ≡ room = omega arith in
-      let first : all ≡ take room text = parts ∙ ap (λ (l : List ℕ). l ++ take (room - length l) text) none ∙ ap (λ (n : ℕ). take n text) whole in
-      let done : changed ≡ map f all = all_changed f all changed i inv h in
-      refilled items changed (ap length done ∙ length-map all f ∙ ap length same)
-      ∙ done
-      ∙ ap (map f) first
-      ∙ sym (take-map f room text)

@@ -91,6 +91,11 @@ module _ (count : ℕ) (line ns rest : List ℕ) (e : Ok (ns, rest) ≡ numbers_
       go None f h = sym (taken_only ∙ ap (with_no_word ns) (no_word_words rest f))
       go (Some found) f h = absurd (cc)
 
+-- of an array nothing is to be told: at a count that is a constant, the answer is what is said of it
+pub as_it_is : {A : Type 0} (answer : Result A Reason) → answer_by (λ a. a) answer ≡ answer
+as_it_is (Ok a) = refl
+as_it_is (Err r) = refl
+
 -- ---- a list to the end of the line, behind the numbers ns
 
 unfoldable pub filled : List ℕ → ℕ → List (List ℕ) → Result Unit Reason × List ℕ

@@ -6,6 +6,7 @@ ghost use Rattle.text.specs.Room.{Kept};
 
 use crate::entries::Entries;
 use crate::room::{Change, Room};
+use crate::wanted::Wanted;
 use crate::words::next_word;
 use wording::Reason;
 
@@ -40,29 +41,25 @@ pub fn number(word: &[u8]) -> Result<u64, Reason>
     value(word)
 }
 
-// The numbers that the next words are, and what follows these words.
-pub fn numbers<const N: usize>(line: &[u8]) -> Result<([u64; N], &[u8]), Reason>
-    ensures { answer_by (λ found. (found.0, found.1.now)) result ≡ numbers_in N line.now }
+// The numbers that the next words are, as many as are wanted, and what follows these words.
+pub fn numbers<W: Wanted>(line: &[u8], wanted: W) -> Result<(W::Values, &[u8]), Reason>
+    ensures { answer_by (λ found. (W.told found.0, found.1.now)) result ≡ numbers_in (W.count wanted) line.now }
 {
-    let mut values = [0; N];
+    let mut values = wanted.zeros();
     let mut rest = line;
-    for value in &mut values {
+    for i in 0..wanted.count() {
         let (word, after) = next_word(rest).ok_or(Reason::TooFewWords)?;
-        *value = number(word)?;
+        W::put(&mut values, i, number(word)?);
         rest = after;
     }
     Ok((values, rest))
 }
 
-// The numbers that the next words are, and no further word.
-pub fn only<const N: usize>(line: &[u8]) -> Result<[u64; N], Reason>
-    ensures { result ≡ only_of N (words_of line.now) }
+// The numbers that the next words are, as many as are wanted, and no further word.
+pub fn only<W: Wanted>(line: &[u8], wanted: W) -> Result<W::Values, Reason>
+    ensures { answer_by W.told result ≡ only_of (W.count wanted) (words_of line.now) }
 {
-    // By a match, since the borrow checker does not take `?` of an array of N beside a slice.
-    let (values, rest) = match numbers::<N>(line) {
-        Ok(found) => found,
-        Err(reason) => return Err(reason),
-    };
+    let (values, rest) = numbers(line, wanted)?;
     if next_word(rest).is_some() {
         return Err(Reason::TooManyWords);
     }
@@ -104,9 +101,9 @@ impl Change for Figure {
 }
 
 // The characters of a word as numbers, as many as there is room for, in place of what stood there.
-pub fn figures<B: Room>(word: &[u8], out: &mut B)
-    ensures { ((B.buffer out.new).items ≡ take (B.buffer out.old).room (map figure word.now)) × Kept (B.buffer out.old) (B.buffer out.new) }
+pub fn figures<B: Room>(word: &[u8], digits: &mut B)
+    ensures { ((B.buffer digits.new).items ≡ take (B.buffer digits.old).room (map figure word.now)) × Kept (B.buffer digits.old) (B.buffer digits.new) }
 {
-    out.clear();
-    out.put_each::<Figure>(word);
+    digits.clear();
+    digits.put_each::<Figure>(word);
 }

@@ -2,7 +2,6 @@
 use Rattle.std.proofs.Common.{◌≡◌, ℕ, refl}
 use Rattle.maps.specs.declared.Blocks.{Blocks}
 use Rattle.maps.specs.declared.Blocks.TheVariants.{One, Two}
-use Rattle.maps.specs.declared.Burst.{Burst}
 use Rattle.maps.specs.declared.Content.{Content}
 use Rattle.maps.specs.declared.Content.TheVariants.{Idle, Channel}
 use Rattle.maps.specs.declared.Kind.{Kind}

@@ -3,7 +3,6 @@ use Rattle.std.specs.Prelude.{ℕ, cond, List, [], ◌∷◌, ◌++◌, eqb, ltb
 use Rattle.c_answers.specs.declared.TdmaLine.{TdmaLine}
 use Rattle.maps.specs.declared.Kind.{Kind}
 use Rattle.maps.specs.declared.Kind.TheVariants.{Tch, Sacch, Sdcch, Fcch, Sch, Bcch, Ccch, Rach}
-use Rattle.maps.specs.declared.Place.{Place}
 use Rattle.wording.specs.Words.{ascii}
 use Rattle.wording.specs.Print.{decimal_of, right, left}
 use Rattle.wording.specs.Replies.{channel_text}

@@ -20,13 +20,7 @@ use text::print::{put, put_left, put_number, put_right, put_spaces};
 use text::room::Room;
 
 // What is shown, its numbers in the order of the line; the open lines' numbers follow.
-pub fn head<B: Room>(
-    out: &mut B,
-    tn: u32,
-    direction: u32,
-    count: u32,
-    frame: u32,
-)
+pub fn head<B: Room>(out: &mut B, tn: u32, direction: u32, count: u32, frame: u32)
     ensures { Put (B.buffer out.old) (B.buffer out.new) (head_text tn direction count frame) }
 {
     put(out, b"timeslot ");

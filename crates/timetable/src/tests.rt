@@ -42,7 +42,10 @@ fn cells(rt: HostRuntime) {
         owner: 0,
     };
     answered(&mut out, silent);
-    assert_eq!(rt; out.as_slice(), b"    10 idle                    |".as_slice());
+    assert_eq!(rt;
+        out.as_slice(),
+        b"    10 idle                    |".as_slice()
+    );
 }
 
 #[test]
@@ -61,10 +64,19 @@ fn odd_numbers(rt: HostRuntime) {
         ..TdmaLine::default()
     };
     assert_eq!(rt; numbered_at(&mut out, 1, line), 34);
-    assert_eq!(rt; out.as_slice(), b".  1024 SDCCH 5 70000  4.5  6.70 |..".as_slice());
+    assert_eq!(rt;
+        out.as_slice(),
+        b".  1024 SDCCH 5 70000  4.5  6.70 |..".as_slice()
+    );
     assert_eq!(rt; numbered_at(&mut out, 99, line), 36);
-    assert_eq!(rt; out.as_slice(), b".  1024 SDCCH 5 70000  4.5  6.70 |..".as_slice());
+    assert_eq!(rt;
+        out.as_slice(),
+        b".  1024 SDCCH 5 70000  4.5  6.70 |..".as_slice()
+    );
     let other = TdmaLine { channel: 9, ..line };
     assert_eq!(rt; numbered_at(&mut out, 30, other), 36);
-    assert_eq!(rt; out.as_slice(), b".  1024 SDCCH 5 70000  4.5  6.  1024".as_slice());
+    assert_eq!(rt;
+        out.as_slice(),
+        b".  1024 SDCCH 5 70000  4.5  6.  1024".as_slice()
+    );
 }
