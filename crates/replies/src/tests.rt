@@ -1,7 +1,6 @@
 // `answer` at the type that each call gives writes the sentence of that call.
 ghost use Rattle.std.specs.Prelude.{◌≡◌};
-ghost use Rattle.wording.specs.Print.{written};
-ghost use Rattle.text.specs.Room.{Appended};
+ghost use Rattle.wording.specs.Print.{written, Appended};
 ghost use Rattle.wording.specs.Replies.{numbered_reason_text, error_with, error_text, done_text, number_text, hop_text, page_text, split_text, map_text, line_text, who_text, bits_text};
 
 use crate::{Bits, answer, error, refused};

@@ -1,11 +1,9 @@
 -- What a lent slice has before its place after a text was put there. Assumes nothing.
 use Rattle.std.proofs.Common.{◌≡◌, ℕ, ◌+◌, ◌-◌, ◌<◌, ◌≤◌, min, List, [], ◌∷◌, ◌++◌, length, take, set, map, add-one, sym, ap, ◌∙◌, append_assoc, arith, length-append}
 use Rattle.std.proofs.lemmas.List.{length-take, length-map, take_min, take_at, take-map}
-use lib.Seq.{take_all}
 use Rattle.std.proofs.Math.Seq.{take-suc-set}
-use Rattle.wording.specs.Print.{written}
-use Rattle.wording.proofs.Written.{take-append, written_whole, written-full, written-take}
-use Rattle.text.specs.Room.{Appended}
+use Rattle.wording.specs.Print.{written, Appended}
+use Rattle.wording.proofs.Written.{written_whole, written-full, written-take, written_as_appended}
 
 module _ (slice text : List ℕ) (at start fits : ℕ) (first : start ≡ min at (length slice)) (most : fits ≡ min (length slice - start) (length text)) where
   before : take start slice ≡ take at slice
@@ -40,13 +38,4 @@ none_filled slice at x h = sym (written-full (length slice) (take at slice) (x �
 -- as a lent slice and a place tell it
 pub appended : (before after text : List ℕ) (at place end : ℕ) → take place after ≡ written (length before) (take at before) text → length after ≡ length before
     → end ≡ min place (length after) → Appended before at after end text
-unfolding written
-appended before after text at place end put same e =
-    let fits : length (take at before) ≤ length before = omega (arith, length-take at before) in
-    record {
-      same_length = same;
-      inside = omega (arith, e);
-      written = ap (λ (n : ℕ). take n after) e ∙ take_min place after ∙ put
-          ∙ ap (λ (s : List ℕ). s ++ take (length before - length (take at before)) text) (sym (take_all (length before) (take at before) fits))
-          ∙ sym (take-append (length before) (take at before) text);
-    }
+appended before after text at place end put same e = written_as_appended same (omega (arith, e)) (ap (λ (n : ℕ). take n after) e ∙ take_min place after ∙ put)

@@ -3,8 +3,7 @@
 ghost use Rattle.std.specs.Prelude.{◌≡◌, min, length, map, take};
 ghost use Rattle.wording.specs.Words.{words_of};
 ghost use Rattle.wording.specs.Numbers.{answer_by, numbers_in, only_of, figure, list_filled};
-ghost use Rattle.wording.specs.Print.{spaced};
-ghost use Rattle.text.specs.Room.{Appended};
+ghost use Rattle.wording.specs.Print.{spaced, Appended};
 
 use crate::numbers::{figures, list, numbers, only};
 use crate::print::{put, put_bits, put_left, put_number, put_numbers, put_right, put_spaces};

@@ -1,8 +1,7 @@
 // What a line has in a frame, put to an `ArrayVec` and to a lent slice from a place on.
 ghost use Rattle.std.specs.Prelude.{◌≡◌};
-ghost use Rattle.wording.specs.Print.{written};
+ghost use Rattle.wording.specs.Print.{written, Appended};
 ghost use Rattle.wording.specs.Table.{cell_text};
-ghost use Rattle.text.specs.Room.{Appended};
 ghost use Rattle.timetable.specs.Numbered.{numbered_cell_text};
 
 use crate::cell;

@@ -1,5 +1,6 @@
 -- specs/Examples.antt computed. Assumes nothing.
 use mathlib.Core.Path.{refl}
+use lib.Dec.{lit≤}
 use Rattle.answers.specs.Outcome.{any_of}
 use Rattle.clock.specs.Clock.{prime_of}
 use Rattle.wording.specs.Words.{until, from, past, in_word, joined, words_of, first_word, after_words, first_line, same_text}
@@ -82,6 +83,8 @@ print =
       bits = refl;
       fills = refl;
       cuts = refl;
+      filled = record { same_length = refl; inside = lit≤ {m = 3} {n = 3} tt; written = refl };
+      cut = record { same_length = refl; inside = lit≤ {m = 3} {n = 3} tt; written = refl };
     }
 
 pub names : NameExamples
@@ -133,6 +136,9 @@ replies =
       large = refl;
       large_count = refl;
       long_line = refl;
+      first_reasons = refl;
+      last_reasons = refl;
+      no_reason = refl;
     }
 
 pub table : TableExamples

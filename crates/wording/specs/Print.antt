@@ -1,5 +1,5 @@
 -- What is written to a lent buffer. Assumes nothing.
-use Rattle.std.specs.Prelude.{ℕ, zero, suc, ◌+◌, ◌-◌, ◌/◌, ◌%◌, cond, List, [], ◌∷◌, ◌++◌, eqb, ltb, length, take, replicate}
+use Rattle.std.specs.Prelude.{ℕ, zero, suc, ◌+◌, ◌-◌, ◌/◌, ◌%◌, ◌≤◌, ◌≡◌, cond, List, [], ◌∷◌, ◌++◌, eqb, ltb, length, take, replicate}
 
 -- the decimal digits of a number of at most k digits, first digit highest, with no zeros in front
 unfoldable pub decimal_within : ℕ → ℕ → List ℕ
@@ -29,3 +29,9 @@ bit_character bit = cond (eqb bit 0) 48 49
 -- a buffer's bytes after a text was written behind them, with room for so many in all; what has no room is left out
 unfoldable pub written : ℕ → List ℕ → List ℕ → List ℕ
 written room before text = before ++ take (room - length before) text
+
+-- the same of a list with a place in it: after the bytes before `at` a text was written, which ends at `end`
+pub record Appended (before : List ℕ) (at : ℕ) (after : List ℕ) (end : ℕ) (text : List ℕ) : Type 0 where
+  pub same_length : length after ≡ length before
+  pub inside : end ≤ length after
+  pub written : take end after ≡ take (length before) (take at before ++ text)
