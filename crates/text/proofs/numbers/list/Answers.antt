@@ -6,7 +6,7 @@ use Rattle.text.proofs.Taken.{filled_from, list_done, list_full, list_wrong, lis
 use Rattle.text.proofs.numbers.list.Goals as goal
 
 pub loop-word-init : goal.loop-word-init
-loop-word-init g c = (filled_from _ _ _ c.clear.ensures.0, c.clear.ensures.1)
+loop-word-init g c = (filled_from _ _ _ (search rules), search rules)
 
 pub returns-then-is_full : goal.returns-then-is_full
 returns-then-is_full g c = (list_full _ _ _ _ c.loop-word.invariant.0 _ _ c.in-Some.ensures (grind (arith, common_steps)), c.loop-word.invariant.1)

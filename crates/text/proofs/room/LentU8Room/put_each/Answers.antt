@@ -10,4 +10,4 @@ pub returns : goal.returns
 returns g c =
     let f = g.C.Change.changed in
     let changed = all_changed f _ _ _ c.loop-byte.invariant c.loop-byte-test.false ∙ ap (map f) c.copy_from_slice.ensures.after in
-    (filled_each f c.args.self.now.slice.now c.args.text.now c.args.self.now.at _ _ (search rules) (search rules) c.loop-byte.byte-items _ changed, search rules)
+    (filled_each f c.args.self.now.slice.now c.args.text.now c.args.self.now.at _ _ _ (search rules) (search rules) (search rules) c.loop-byte.byte-items _ changed, search rules)
