@@ -1,69 +1,71 @@
 // What each answer of the program `schedule` reads like, written to a buffer behind what stands there: an `ArrayVec`, or a lent slice from a place on.
 #![tactic(auto, using(crate::proofs::Texts::in_turn))]
 
+mod named;
 #[cfg(test)]
 mod tests;
 
 ghost use Rattle.std.specs.Prelude.{ℕ, None, List, [], ◌∷◌, ◌++◌, ◌≡◌, map};
 ghost use Rattle.wording.specs.Words.{ascii};
 ghost use Rattle.wording.specs.Print.{spaced, bit_character};
-ghost use Rattle.wording.specs.Replies.{refused_text, answered, tuning_text, parts_text, paging_text, channel_text, place_text, blocks_text, owner_text, content_text, slot_text, found_text, reason_text, numbered_reason_text, error_with};
+ghost use Rattle.wording.specs.Replies.{refused_text, answered, tuning_text, parts_text, paging_text, place_text, blocks_text, owner_text, content_text, slot_text, found_text, reason_text, numbered_reason_text, error_with};
 ghost use Rattle.text.specs.Room.{Put};
 
 use answers::Refusal;
 use clock::Frame;
 use groups::PagingBlock;
 use hops::Tuning;
-use maps::{Blocks, Content, Kind, Place};
+use maps::{Blocks, Content, Place};
+pub use named::Named;
 use slots::{Found, OnAir};
 use text::print::{put, put_bits, put_number, put_numbers};
 use text::room::Room;
 use wording::Reason;
 
 // What an accepted call gives, as it is printed behind "ok".
-pub trait Reply {
+pub trait Reply<B: Room> {
     ghost text: { Self → List ℕ };
 
-    fn print<B: Room>(self, out: &mut B)
+    fn print(self, out: &mut B)
         ensures { Put (B.buffer out.old) (B.buffer out.new) (text self) };
 }
 
 // Nothing but "ok".
-impl Reply for () {
+impl<B: Room> Reply<B> for () {
     ghost text = { λ u. [] };
 
-    fn print<B: Room>(self, out: &mut B) {}
+    fn print(self, out: &mut B) {}
 }
 
 // A frame number.
-impl Reply for u32 {
+impl<B: Room> Reply<B> for u32 {
     ghost text = { λ n. spaced (n ∷ []) };
 
-    fn print<B: Room>(self, out: &mut B) {
+    fn print(self, out: &mut B) {
         put_numbers(out, &[self]);
     }
 }
 
-impl Reply for Tuning {
+impl<B: Room> Reply<B> for Tuning {
     ghost text = { tuning_text };
 
-    fn print<B: Room>(self, out: &mut B) {
+    fn print(self, out: &mut B) {
         put_numbers(out, &[self.arfcn, self.mai, self.position]);
     }
 }
 
-impl Reply for PagingBlock {
+impl<B: Room> Reply<B> for PagingBlock {
     ghost text = { paging_text };
 
-    fn print<B: Room>(self, out: &mut B) {
+    fn print(self, out: &mut B) {
         put_numbers(out, &[self.tn, self.block, self.frame]);
     }
 }
 
-impl Reply for Frame {
+impl<B: Room> Reply<B> for Frame {
     ghost text = { parts_text };
 
-    fn print<B: Room>(self, out: &mut B) {
+    fn print(self, out: &mut B) {
         put_numbers(out, &[self.t1, self.t2, self.t3]);
         match self.prime() {
             Some(prime) => put_numbers(out, &[prime]),
@@ -72,27 +74,27 @@ impl Reply for Frame {
     }
 }
 
-impl Reply for Content {
+impl<B: Room> Reply<B> for Content {
     ghost text = { λ c. content_text c None };
 
-    fn print<B: Room>(self, out: &mut B) {
+    fn print(self, out: &mut B) {
         content(out, self, None);
     }
 }
 
-impl Reply for OnAir {
+impl<B: Room> Reply<B> for OnAir {
     ghost text = { slot_text };
 
-    fn print<B: Room>(self, out: &mut B) {
+    fn print(self, out: &mut B) {
         self.tuning.print(out);
         content(out, self.content, Some(self.owner));
     }
 }
 
-impl Reply for Option<Found> {
+impl<B: Room> Reply<B> for Option<Found> {
     ghost text = { found_text };
 
-    fn print<B: Room>(self, out: &mut B) {
+    fn print(self, out: &mut B) {
         match self {
             Some(found) => {
                 put_numbers(out, &[found.line]);
@@ -107,17 +109,17 @@ impl Reply for Option<Found> {
 #[derive(Clone, Copy)]
 pub struct Bits<'a>(pub &'a [u8]);
 
-impl<'a> Reply for Bits<'a> {
+impl<'a, B: Room> Reply<B> for Bits<'a> {
     ghost text = { λ b. ascii " " ++ map bit_character b.0.now };
 
-    fn print<B: Room>(self, out: &mut B) {
+    fn print(self, out: &mut B) {
         put(out, b" ");
         put_bits(out, self.0);
     }
 }
 
 // "ok" and what an accepted call gives, or the refusal.
-pub fn answer<T: Reply, B: Room>(out: &mut B, answer: Result<T, Refusal>)
+pub fn answer<T: Reply<B>, B: Room>(out: &mut B, answer: Result<T, Refusal>)
     ensures { Put (B.buffer out.old) (B.buffer out.new) (answered answer T.text) }
 {
     match answer {
@@ -142,20 +144,12 @@ pub fn refused<B: Room>(out: &mut B, refusal: Refusal)
     put(out, b"\n");
 }
 
-// The name of a channel. A function, no `Display`: what is printed is cut where the buffer has no room, and of that no `write!` has a clause.
-pub fn channel_name(kind: Kind) -> &'static [u8]
-    ensures { result.now ≡ channel_text kind }
+// The name of a channel, by its kind or its number. A function, no `Display`: what is printed is cut where the buffer has no room, and of that no `write!` has a
+// clause.
+pub fn channel_name<K: Named>(kind: K) -> &'static [u8]
+    ensures { result.now ≡ K.named kind }
 {
-    match kind {
-        Kind::Tch => b"TCH",
-        Kind::Sacch => b"SACCH",
-        Kind::Sdcch => b"SDCCH",
-        Kind::Fcch => b"FCCH",
-        Kind::Sch => b"SCH",
-        Kind::Bcch => b"BCCH",
-        Kind::Ccch => b"CCCH",
-        Kind::Rach => b"RACH",
-    }
+    kind.name()
 }
 
 fn owner<B: Room>(out: &mut B, owner: Option<u32>)

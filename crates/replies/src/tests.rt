@@ -1,9 +1,9 @@
 // `answer` at the type that each call gives writes the sentence of that call.
 ghost use Rattle.std.specs.Prelude.{◌≡◌};
 ghost use Rattle.wording.specs.Print.{written, Appended};
-ghost use Rattle.wording.specs.Replies.{numbered_reason_text, error_with, error_text, done_text, number_text, hop_text, page_text, split_text, map_text, line_text, who_text, bits_text};
+ghost use Rattle.wording.specs.Replies.{numbered_channel_text, channel_text, numbered_reason_text, error_with, error_text, done_text, number_text, hop_text, page_text, split_text, map_text, line_text, who_text, bits_text};
 
-use crate::{Bits, answer, error, refused};
+use crate::{Bits, answer, channel_name, error, refused};
 use answers::Refusal;
 use arrayvec::ArrayVec;
 use clock::Frame;
@@ -11,6 +11,7 @@ use groups::PagingBlock;
 use hops::Tuning;
 use maps::{Blocks, Burst, Content, Kind, Place};
 use slots::{Found, OnAir};
+use text::print::put;
 use text::room::Lent;
 use wording::Reason;
 
@@ -149,8 +150,8 @@ fn lines(rt: HostRuntime) {
     );
 }
 
-fn why(out: &mut ArrayVec<u8, 64>, number: u64, reason: Reason)
-    ensures { out.new.items ≡ written 64 out.old.items (error_text number reason) }
+fn why<const N: usize>(out: &mut ArrayVec<u8, N>, number: u64, reason: Reason)
+    ensures { out.new.items ≡ written N out.old.items (error_text number reason) }
 {
     error(out, number, reason);
 }
@@ -164,9 +165,35 @@ fn why_at(out: &mut [u8], at: usize, number: u64, reason: u32) -> usize
     lent.end()
 }
 
+// The name of a channel by its kind and by its number.
+fn name_of(kind: Kind) -> &'static [u8]
+    ensures { result.now ≡ channel_text kind }
+{
+    channel_name(kind)
+}
+
+fn name_at(out: &mut [u8], at: usize, number: u32) -> usize
+    ensures { Appended out.old at out.new result (numbered_channel_text number) }
+{
+    let mut lent = Lent { slice: out, at };
+    put(&mut lent, channel_name(number));
+    lent.end()
+}
+
+#[test]
+fn names(rt: HostRuntime) {
+    let mut slice = [b'.'; 8];
+    assert_eq!(rt; name_of(Kind::Sdcch), b"SDCCH".as_slice());
+    assert_eq!(rt; name_at(&mut slice, 1, 3), 6);
+    assert_eq!(rt; slice.as_slice(), b".SDCCH..".as_slice());
+    assert_eq!(rt; name_at(&mut slice, 4, 9), 4);
+    assert_eq!(rt; name_at(&mut slice, 6, 8), 8);
+    assert_eq!(rt; slice.as_slice(), b".SDCCHRA".as_slice());
+}
+
 #[test]
 fn reasons(rt: HostRuntime) {
-    let mut out = ArrayVec::new();
+    let mut out = ArrayVec::<u8, 64>::new();
     why(&mut out, 12, Reason::TooFewWords);
     assert_eq!(rt; out.as_slice(), b"error 12 too few words\n".as_slice());
     let mut slice = [b'.'; 26];

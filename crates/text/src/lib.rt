@@ -2,6 +2,8 @@
 // (print.rt; room.rt and entries.rt, which buffers there are).
 #![tactic(auto)]
 
+#[cfg(test)]
+mod clauses;
 pub mod entries;
 pub mod numbers;
 pub mod print;

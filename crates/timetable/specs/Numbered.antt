@@ -1,19 +1,10 @@
 -- What a line has in a frame, of the numbers that C gets for it, whatever they are. Assumes nothing.
-use Rattle.std.specs.Prelude.{ℕ, cond, List, [], ◌∷◌, ◌++◌, eqb, ltb, map, get_or}
+use Rattle.std.specs.Prelude.{ℕ, cond, List, ◌++◌, eqb, ltb}
 use Rattle.c_answers.specs.declared.TdmaLine.{TdmaLine}
-use Rattle.maps.specs.declared.Kind.{Kind}
-use Rattle.maps.specs.declared.Kind.TheVariants.{Tch, Sacch, Sdcch, Fcch, Sch, Bcch, Ccch, Rach}
 use Rattle.wording.specs.Words.{ascii}
 use Rattle.wording.specs.Print.{decimal_of, right, left}
-use Rattle.wording.specs.Replies.{channel_text}
+use Rattle.wording.specs.Replies.{numbered_channel_text}
 use Rattle.wording.specs.Table.{owner_text, block_text}
-
--- the channels, numbered from 1 on; another number has no name
-abbrev pub kinds : List Kind
-kinds = Tch ∷ Sacch ∷ Sdcch ∷ Fcch ∷ Sch ∷ Bcch ∷ Ccch ∷ Rach ∷ []
-
-abbrev pub numbered_name : ℕ → List ℕ
-numbered_name n = get_or ([] ∷ map channel_text kinds) n []
 
 -- the subchannel and its owner; a common part has neither, nor has a number that no channel has
 abbrev pub numbered_holder_text : TdmaLine → List ℕ
@@ -27,7 +18,7 @@ numbered_columns_text a =
 
 -- idle, or a channel: its name, the subchannel and its owner, block and place
 abbrev pub numbered_shown_text : TdmaLine → List ℕ
-numbered_shown_text a = cond (eqb a.channel 0) (ascii "idle                    |") (left 5 (numbered_name a.channel) ++ ascii " " ++ numbered_holder_text a ++ numbered_columns_text a)
+numbered_shown_text a = cond (eqb a.channel 0) (ascii "idle                    |") (left 5 (numbered_channel_text a.channel) ++ ascii " " ++ numbered_holder_text a ++ numbered_columns_text a)
 
 -- what a line has in a frame: its ARFCN, and idle or the channel
 abbrev pub numbered_cell_text : TdmaLine → List ℕ

@@ -9,11 +9,11 @@ ghost use Rattle.wording.specs.Print.{decimal_of, left};
 ghost use Rattle.wording.specs.Replies.{channel_text};
 ghost use Rattle.wording.specs.Table.{direction_text, head_text, title_text, frame_text, owner_text, holder_text, block_text, columns_text, shown_text, cell_text};
 ghost use Rattle.text.specs.Room.{Put};
-ghost use Rattle.timetable.specs.Numbered.{numbered_name, numbered_holder_text, numbered_columns_text, numbered_shown_text, numbered_cell_text};
+ghost use Rattle.timetable.specs.Numbered.{numbered_holder_text, numbered_columns_text, numbered_shown_text, numbered_cell_text};
 
 use c_answers::TdmaLine;
 use clock::Frame;
-use maps::{Blocks, Burst, Content, Kind, Place};
+use maps::{Blocks, Burst, Content, Place};
 use replies::channel_name;
 use slots::OnAir;
 use text::print::{put, put_left, put_number, put_right, put_spaces};
@@ -177,23 +177,6 @@ pub fn cell<B: Room, S: Slot>(out: &mut B, slot: S)
     slot.show(out);
 }
 
-// The name of a channel by its number; another number has none.
-fn name(number: u32) -> &'static [u8]
-    ensures { result.now ≡ numbered_name number }
-{
-    match number {
-        1 => channel_name(Kind::Tch),
-        2 => channel_name(Kind::Sacch),
-        3 => channel_name(Kind::Sdcch),
-        4 => channel_name(Kind::Fcch),
-        5 => channel_name(Kind::Sch),
-        6 => channel_name(Kind::Bcch),
-        7 => channel_name(Kind::Ccch),
-        8 => channel_name(Kind::Rach),
-        _ => b"",
-    }
-}
-
 // A number above 3 is a common part's, or no channel's.
 fn numbered_holder<B: Room>(out: &mut B, line: TdmaLine)
     ensures { Put (B.buffer out.old) (B.buffer out.new) (numbered_holder_text line) }
@@ -229,7 +212,7 @@ fn numbered<B: Room>(out: &mut B, line: TdmaLine)
     if line.channel == 0 {
         put(out, b"idle                    |");
     } else {
-        kind(out, name(line.channel));
+        kind(out, channel_name(line.channel));
         put(out, b" ");
         numbered_holder(out, line);
         numbered_columns(out, line);

@@ -1,19 +1,20 @@
 // What a line has in a frame, put to an `ArrayVec` and to a lent slice from a place on.
 ghost use Rattle.std.specs.Prelude.{◌≡◌};
 ghost use Rattle.wording.specs.Print.{written, Appended};
-ghost use Rattle.wording.specs.Table.{cell_text};
+ghost use Rattle.wording.specs.Table.{head_text, title_text, frame_text, cell_text};
 ghost use Rattle.timetable.specs.Numbered.{numbered_cell_text};
 
-use crate::cell;
+use crate::{cell, frame, head, title};
 use arrayvec::ArrayVec;
 use c_answers::TdmaLine;
+use clock::Frame;
 use hops::Tuning;
 use maps::Content;
 use slots::OnAir;
 use text::room::Lent;
 
-fn answered(out: &mut ArrayVec<u8, 64>, on_air: OnAir)
-    ensures { out.new.items ≡ written 64 out.old.items (cell_text on_air) }
+fn answered<const N: usize>(out: &mut ArrayVec<u8, N>, on_air: OnAir)
+    ensures { out.new.items ≡ written N out.old.items (cell_text on_air) }
 {
     cell(out, on_air);
 }
@@ -27,9 +28,57 @@ fn numbered_at(out: &mut [u8], at: usize, line: TdmaLine) -> usize
     lent.end()
 }
 
+fn head_at(out: &mut [u8], at: usize, tn: u32, direction: u32, count: u32, number: u32) -> usize
+    ensures { Appended out.old at out.new result (head_text tn direction count number) }
+{
+    let mut lent = Lent { slice: out, at };
+    head(&mut lent, tn, direction, count, number);
+    lent.end()
+}
+
+fn title_at(out: &mut [u8], at: usize, line: u32) -> usize
+    ensures { Appended out.old at out.new result (title_text line) }
+{
+    let mut lent = Lent { slice: out, at };
+    title(&mut lent, line);
+    lent.end()
+}
+
+fn frame_at(out: &mut [u8], at: usize, number: u32, parts: Frame) -> usize
+    ensures { Appended out.old at out.new result (frame_text number parts) }
+{
+    let mut lent = Lent { slice: out, at };
+    frame(&mut lent, number, parts);
+    lent.end()
+}
+
+fn head_to<const N: usize>(
+    out: &mut ArrayVec<u8, N>,
+    tn: u32,
+    direction: u32,
+    count: u32,
+    number: u32,
+)
+    ensures { out.new.items ≡ written N out.old.items (head_text tn direction count number) }
+{
+    head(out, tn, direction, count, number);
+}
+
+fn title_to<const N: usize>(out: &mut ArrayVec<u8, N>, line: u32)
+    ensures { out.new.items ≡ written N out.old.items (title_text line) }
+{
+    title(out, line);
+}
+
+fn frame_to<const N: usize>(out: &mut ArrayVec<u8, N>, number: u32, parts: Frame)
+    ensures { out.new.items ≡ written N out.old.items (frame_text number parts) }
+{
+    frame(out, number, parts);
+}
+
 #[test]
 fn cells(rt: HostRuntime) {
-    let mut out = ArrayVec::new();
+    let mut out = ArrayVec::<u8, 64>::new();
     let tuning = Tuning {
         arfcn: 10,
         mai: 0,

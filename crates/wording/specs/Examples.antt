@@ -17,7 +17,7 @@ use Rattle.wording.specs.Words.{ascii, parted, past, words_of, first_word, after
 use Rattle.wording.specs.Numbers.{number_of, numbers_of, numbers_in, only_of, list_of, list_filled, parameter, figure}
 use Rattle.wording.specs.Print.{decimal_of, right, left, spaced, bit_character, written, Appended}
 use Rattle.wording.specs.Names.{command_of, burst_of}
-use Rattle.wording.specs.Replies.{done_text, number_text, hop_text, page_text, split_text, map_text, line_text, who_text, bits_text, numbered_reason_text, error_with, error_text}
+use Rattle.wording.specs.Replies.{done_text, number_text, hop_text, page_text, split_text, map_text, line_text, who_text, bits_text, numbered_channel_text, numbered_reason_text, error_with, error_text}
 use Rattle.wording.specs.Table.{head_text, title_text, frame_text, cell_text}
 
 -- ---- a line's words
@@ -206,6 +206,9 @@ pub record ReplyExamples : Type 0 where
   pub large : error_text 12 NumberTooLarge ≡ ascii "error 12 number too large\n"
   pub large_count : error_text 12 CountTooLarge ≡ ascii "error 12 count too large\n"
   pub long_line : error_text 12 LineTooLong ≡ ascii "error 12 line too long\n"
+  -- a channel by its number: 1 to 8
+  pub first_channels : map numbered_channel_text (0 ∷ 1 ∷ 2 ∷ 3 ∷ 4 ∷ []) ≡ [] ∷ ascii "TCH" ∷ ascii "SACCH" ∷ ascii "SDCCH" ∷ ascii "FCCH" ∷ []
+  pub last_channels : map numbered_channel_text (5 ∷ 6 ∷ 7 ∷ 8 ∷ 9 ∷ []) ≡ ascii "SCH" ∷ ascii "BCCH" ∷ ascii "CCCH" ∷ ascii "RACH" ∷ [] ∷ []
   -- a reason by its number: 1 to 8
   pub first_reasons : map numbered_reason_text (0 ∷ 1 ∷ 2 ∷ 3 ∷ 4 ∷ []) ≡ [] ∷ ascii "unknown command" ∷ ascii "unknown burst" ∷ ascii "too few words" ∷ ascii "too many words" ∷ []
   pub last_reasons : map numbered_reason_text (5 ∷ 6 ∷ 7 ∷ 8 ∷ 9 ∷ []) ≡ ascii "not a number" ∷ ascii "number too large" ∷ ascii "count too large" ∷ ascii "line too long" ∷ [] ∷ []

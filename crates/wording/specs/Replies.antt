@@ -76,6 +76,13 @@ channel_text Bcch = ascii "BCCH"
 channel_text Ccch = ascii "CCCH"
 channel_text Rach = ascii "RACH"
 
+-- the channels, numbered from 1 on; another number has no name
+abbrev pub channels : List Kind
+channels = Tch ∷ Sacch ∷ Sdcch ∷ Fcch ∷ Sch ∷ Bcch ∷ Ccch ∷ Rach ∷ []
+
+abbrev pub numbered_channel_text : ℕ → List ℕ
+numbered_channel_text n = get_or ([] ∷ map channel_text channels) n []
+
 abbrev pub place_text : Place → List ℕ
 place_text p = spaced (p.block ∷ p.place ∷ [])
 
