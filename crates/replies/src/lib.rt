@@ -7,11 +7,12 @@ mod tests;
 
 ghost use Rattle.std.specs.Prelude.{ℕ, None, List, [], ◌∷◌, ◌++◌, ◌≡◌, map};
 ghost use Rattle.wording.specs.Words.{ascii};
-ghost use Rattle.wording.specs.Print.{spaced, bit_character};
+ghost use Rattle.wording.specs.Print.{written, spaced, bit_character};
 ghost use Rattle.wording.specs.Replies.{refused_text, answered, tuning_text, parts_text, paging_text, place_text, blocks_text, owner_text, content_text, slot_text, found_text, reason_text, numbered_reason_text, error_with};
 ghost use Rattle.text.specs.Room.{Put};
 
 use answers::Refusal;
+use arrayvec::ArrayVec;
 use clock::Frame;
 use groups::PagingBlock;
 use hops::Tuning;
@@ -22,50 +23,50 @@ use text::print::{put, put_bits, put_number, put_numbers};
 use text::room::Room;
 use wording::Reason;
 
-// What an accepted call gives, as it is printed behind "ok".
-pub trait Reply<B: Room> {
+// What an accepted call gives, as it is printed behind "ok" in any room.
+pub trait ReplyIn<B: Room> {
     ghost text: { Self → List ℕ };
 
-    fn print(self, out: &mut B)
+    fn print_in(self, out: &mut B)
         ensures { Put (B.buffer out.old) (B.buffer out.new) (text self) };
 }
 
 // Nothing but "ok".
-impl<B: Room> Reply<B> for () {
+impl<B: Room> ReplyIn<B> for () {
     ghost text = { λ u. [] };
 
-    fn print(self, out: &mut B) {}
+    fn print_in(self, out: &mut B) {}
 }
 
 // A frame number.
-impl<B: Room> Reply<B> for u32 {
+impl<B: Room> ReplyIn<B> for u32 {
     ghost text = { λ n. spaced (n ∷ []) };
 
-    fn print(self, out: &mut B) {
+    fn print_in(self, out: &mut B) {
         put_numbers(out, &[self]);
     }
 }
 
-impl<B: Room> Reply<B> for Tuning {
+impl<B: Room> ReplyIn<B> for Tuning {
     ghost text = { tuning_text };
 
-    fn print(self, out: &mut B) {
+    fn print_in(self, out: &mut B) {
         put_numbers(out, &[self.arfcn, self.mai, self.position]);
     }
 }
 
-impl<B: Room> Reply<B> for PagingBlock {
+impl<B: Room> ReplyIn<B> for PagingBlock {
     ghost text = { paging_text };
 
-    fn print(self, out: &mut B) {
+    fn print_in(self, out: &mut B) {
         put_numbers(out, &[self.tn, self.block, self.frame]);
     }
 }
 
-impl<B: Room> Reply<B> for Frame {
+impl<B: Room> ReplyIn<B> for Frame {
     ghost text = { parts_text };
 
-    fn print(self, out: &mut B) {
+    fn print_in(self, out: &mut B) {
         put_numbers(out, &[self.t1, self.t2, self.t3]);
         match self.prime() {
             Some(prime) => put_numbers(out, &[prime]),
@@ -74,31 +75,31 @@ impl<B: Room> Reply<B> for Frame {
     }
 }
 
-impl<B: Room> Reply<B> for Content {
+impl<B: Room> ReplyIn<B> for Content {
     ghost text = { λ c. content_text c None };
 
-    fn print(self, out: &mut B) {
+    fn print_in(self, out: &mut B) {
         content(out, self, None);
     }
 }
 
-impl<B: Room> Reply<B> for OnAir {
+impl<B: Room> ReplyIn<B> for OnAir {
     ghost text = { slot_text };
 
-    fn print(self, out: &mut B) {
-        self.tuning.print(out);
+    fn print_in(self, out: &mut B) {
+        self.tuning.print_in(out);
         content(out, self.content, Some(self.owner));
     }
 }
 
-impl<B: Room> Reply<B> for Option<Found> {
+impl<B: Room> ReplyIn<B> for Option<Found> {
     ghost text = { found_text };
 
-    fn print(self, out: &mut B) {
+    fn print_in(self, out: &mut B) {
         match self {
             Some(found) => {
                 put_numbers(out, &[found.line]);
-                found.on_air.print(out);
+                found.on_air.print_in(out);
             }
             None => put(out, b" nobody"),
         }
@@ -109,27 +110,63 @@ impl<B: Room> Reply<B> for Option<Found> {
 #[derive(Clone, Copy)]
 pub struct Bits<'a>(pub &'a [u8]);
 
-impl<'a, B: Room> Reply<B> for Bits<'a> {
+impl<'a, B: Room> ReplyIn<B> for Bits<'a> {
     ghost text = { λ b. ascii " " ++ map bit_character b.0.now };
 
-    fn print(self, out: &mut B) {
+    fn print_in(self, out: &mut B) {
         put(out, b" ");
         put_bits(out, self.0);
     }
 }
 
+// The same of an `ArrayVec` alone: what its type says of its room, one who writes a reply of his own need not show.
+pub trait Reply<const N: usize> {
+    ghost text: { Self → List ℕ };
+
+    fn print(self, out: &mut ArrayVec<u8, N>)
+        ensures { out.new.items ≡ written N out.old.items (text self) };
+}
+
+// Each of the above is one.
+impl<T: ReplyIn<ArrayVec<u8, N>>, const N: usize> Reply<N> for T {
+    ghost text = { T.ReplyIn.text };
+
+    fn print(self, out: &mut ArrayVec<u8, N>) {
+        self.print_in(out);
+    }
+}
+
+// One that is written elsewhere, as `answer_in` takes it.
+struct Told<T>(T);
+
+impl<T: Reply<N>, const N: usize> ReplyIn<ArrayVec<u8, N>> for Told<T> {
+    ghost text = { λ t. T.text t.0 };
+
+    fn print_in(self, out: &mut ArrayVec<u8, N>) {
+        let Told(reply) = self;
+        reply.print(out);
+    }
+}
+
 // "ok" and what an accepted call gives, or the refusal.
-pub fn answer<T: Reply<B>, B: Room>(out: &mut B, answer: Result<T, Refusal>)
+pub fn answer_in<T: ReplyIn<B>, B: Room>(out: &mut B, answer: Result<T, Refusal>)
     ensures { Put (B.buffer out.old) (B.buffer out.new) (answered answer T.text) }
 {
     match answer {
         Ok(value) => {
             put(out, b"ok");
-            value.print(out);
+            value.print_in(out);
             put(out, b"\n");
         }
         Err(refusal) => refused(out, refusal),
     }
+}
+
+// The same to an `ArrayVec`, of any `Reply`.
+pub fn answer<T: Reply<N>, const N: usize>(out: &mut ArrayVec<u8, N>, answer: Result<T, Refusal>)
+    ensures { out.new.items ≡ written N out.old.items (answered answer T.text) }
+{
+    answer_in(out, answer.map(Told));
 }
 
 // A refusal, and the value that comes with some.

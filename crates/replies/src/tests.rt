@@ -1,9 +1,9 @@
-// `answer` at the type that each call gives writes the sentence of that call.
-ghost use Rattle.std.specs.Prelude.{◌≡◌};
+// `answer_in` at the type that each call gives writes the sentence of that call, and `answer` at such a type and at one that is written elsewhere.
+ghost use Rattle.std.specs.Prelude.{[], ◌∷◌, ◌≡◌};
 ghost use Rattle.wording.specs.Print.{written, Appended};
-ghost use Rattle.wording.specs.Replies.{numbered_channel_text, channel_text, numbered_reason_text, error_with, error_text, done_text, number_text, hop_text, page_text, split_text, map_text, line_text, who_text, bits_text};
+ghost use Rattle.wording.specs.Replies.{answered, numbered_channel_text, channel_text, numbered_reason_text, error_with, error_text, done_text, number_text, hop_text, page_text, split_text, map_text, line_text, who_text, bits_text};
 
-use crate::{Bits, answer, channel_name, error, refused};
+use crate::{Bits, Reply, answer, answer_in, channel_name, error, refused};
 use answers::Refusal;
 use arrayvec::ArrayVec;
 use clock::Frame;
@@ -11,63 +11,63 @@ use groups::PagingBlock;
 use hops::Tuning;
 use maps::{Blocks, Burst, Content, Kind, Place};
 use slots::{Found, OnAir};
-use text::print::put;
+use text::print::{put, put_byte};
 use text::room::Lent;
 use wording::Reason;
 
 fn done(out: &mut ArrayVec<u8, 64>, reply: Result<(), Refusal>)
     ensures { out.new.items ≡ written 64 out.old.items (done_text reply) }
 {
-    answer(out, reply);
+    answer_in(out, reply);
 }
 
 fn number(out: &mut ArrayVec<u8, 64>, reply: Result<u32, Refusal>)
     ensures { out.new.items ≡ written 64 out.old.items (number_text reply) }
 {
-    answer(out, reply);
+    answer_in(out, reply);
 }
 
 fn hop(out: &mut ArrayVec<u8, 64>, reply: Result<Tuning, Refusal>)
     ensures { out.new.items ≡ written 64 out.old.items (hop_text reply) }
 {
-    answer(out, reply);
+    answer_in(out, reply);
 }
 
 fn page(out: &mut ArrayVec<u8, 64>, reply: Result<PagingBlock, Refusal>)
     ensures { out.new.items ≡ written 64 out.old.items (page_text reply) }
 {
-    answer(out, reply);
+    answer_in(out, reply);
 }
 
 fn split(out: &mut ArrayVec<u8, 64>, reply: Result<Frame, Refusal>)
     ensures { out.new.items ≡ written 64 out.old.items (split_text reply) }
 {
-    answer(out, reply);
+    answer_in(out, reply);
 }
 
 fn map(out: &mut ArrayVec<u8, 64>, reply: Result<Content, Refusal>)
     ensures { out.new.items ≡ written 64 out.old.items (map_text reply) }
 {
-    answer(out, reply);
+    answer_in(out, reply);
 }
 
 fn line(out: &mut ArrayVec<u8, 64>, reply: Result<OnAir, Refusal>)
     ensures { out.new.items ≡ written 64 out.old.items (line_text reply) }
 {
-    answer(out, reply);
+    answer_in(out, reply);
 }
 
 fn who(out: &mut ArrayVec<u8, 64>, reply: Result<Option<Found>, Refusal>)
     ensures { out.new.items ≡ written 64 out.old.items (who_text reply) }
 {
-    answer(out, reply);
+    answer_in(out, reply);
 }
 
 fn bits(out: &mut ArrayVec<u8, 64>, reply: Result<(), Refusal>, bits: &[u8])
     ensures { out.new.items ≡ written 64 out.old.items (bits_text reply bits.now) }
 {
     match reply {
-        Ok(()) => answer(out, Ok(Bits(bits))),
+        Ok(()) => answer_in(out, Ok(Bits(bits))),
         Err(refusal) => refused(out, refusal),
     }
 }
@@ -148,6 +148,40 @@ fn lines(rt: HostRuntime) {
         out.as_slice(),
         b"ok idle\nok 2 50 3 4 TCH 0 4714 2 1 1 5\nok nobody\n".as_slice()
     );
+}
+
+// A reply that is written elsewhere.
+#[derive(Drop)]
+struct Letter(u8);
+
+impl<const N: usize> Reply<N> for Letter {
+    ghost text = { λ l. l.0 ∷ [] };
+
+    fn print(self, out: &mut ArrayVec<u8, N>) {
+        put_byte(out, self.0);
+    }
+}
+
+fn letter_to(out: &mut ArrayVec<u8, 18>, reply: Result<Letter, Refusal>)
+    ensures { out.new.items ≡ written 18 out.old.items (answered reply (λ l. l.0 ∷ [])) }
+{
+    answer(out, reply);
+}
+
+fn number_to(out: &mut ArrayVec<u8, 18>, reply: Result<u32, Refusal>)
+    ensures { out.new.items ≡ written 18 out.old.items (number_text reply) }
+{
+    answer(out, reply);
+}
+
+#[test]
+fn arrays(rt: HostRuntime) {
+    let mut out = ArrayVec::new();
+    number_to(&mut out, Ok(20));
+    letter_to(&mut out, Ok(Letter(b'?')));
+    assert_eq!(rt; out.as_slice(), b"ok 20\nok?\n".as_slice());
+    letter_to(&mut out, Err(Refusal::Maio));
+    assert_eq!(rt; out.as_slice(), b"ok 20\nok?\nrefused ".as_slice());
 }
 
 fn why<const N: usize>(out: &mut ArrayVec<u8, N>, number: u64, reason: Reason)

@@ -5,7 +5,7 @@ use bursts::{
     Access, Dummy, FrequencyCorrection, Layout, Normal, Synchronization, WithPayload, build_normal,
     take_normal,
 };
-use replies::{Bits, answer};
+use replies::{Bits, answer_in};
 use text::numbers::{narrow, numbers, only};
 use text::wanted::Exactly;
 use text::words::next_word;
@@ -23,14 +23,14 @@ fn built<L: Layout>(out: &mut Text, layout: L, payload: &[u8]) {
     let mut burst = [0u8; 148];
     let bits = &mut burst[..L::SIZE];
     let done = bursts::build(layout, payload, bits);
-    answer(out, done.map(|()| Bits(bits)));
+    answer_in(out, done.map(|()| Bits(bits)));
 }
 
 fn taken<L: WithPayload>(out: &mut Text, layout: L, burst: &[u8]) {
     let mut payload = [0u8; 148];
     let bits = &mut payload[..L::ROOM];
     let done = bursts::take(layout, burst, bits);
-    answer(out, done.map(|()| Bits(bits)));
+    answer_in(out, done.map(|()| Bits(bits)));
 }
 
 // A normal burst has its training sequence code before the bits, which the call refuses before all else. These two differ in the call and in the length,
@@ -40,7 +40,7 @@ fn built_normal(out: &mut Text, words: &[u8]) -> Result<(), Reason> {
     let payload: Figures = last_figures(rest)?;
     let mut bits = [0u8; Normal::SIZE];
     let done = build_normal(narrow(tsc), payload.as_slice(), &mut bits);
-    answer(out, done.map(|()| Bits(&bits)));
+    answer_in(out, done.map(|()| Bits(&bits)));
     Ok(())
 }
 
@@ -49,7 +49,7 @@ fn taken_normal(out: &mut Text, words: &[u8]) -> Result<(), Reason> {
     let burst: Figures = last_figures(rest)?;
     let mut bits = [0u8; Normal::ROOM];
     let done = take_normal(narrow(tsc), burst.as_slice(), &mut bits);
-    answer(out, done.map(|()| Bits(&bits)));
+    answer_in(out, done.map(|()| Bits(&bits)));
     Ok(())
 }
 

@@ -3,7 +3,7 @@
 use crate::output::Text;
 use crate::words::Figures;
 use arrayvec::ArrayVec;
-use replies::answer;
+use replies::answer_in;
 use rules::{Parameters, Values};
 use storage::WORDS;
 use text::numbers::{figures, list, narrow, numbers, only};
@@ -27,7 +27,7 @@ pub(crate) fn start(
         ag: narrow(ag),
         p: narrow(p),
     };
-    answer(out, cell::start(cell, ca.as_slice(), parameters));
+    answer_in(out, cell::start(cell, ca.as_slice(), parameters));
     Ok(())
 }
 
@@ -41,19 +41,19 @@ pub(crate) fn open(out: &mut Text, cell: &mut Cell, words: &[u8]) -> Result<(), 
         combination: narrow(combination),
         tsc: narrow(tsc),
     };
-    answer(out, cell::open(cell, narrow(line), values));
+    answer_in(out, cell::open(cell, narrow(line), values));
     Ok(())
 }
 
 pub(crate) fn close(out: &mut Text, cell: &mut Cell, words: &[u8]) -> Result<(), Reason> {
     let [line] = only(words, Exactly::<1>)?;
-    answer(out, cell::close(cell, narrow(line)));
+    answer_in(out, cell::close(cell, narrow(line)));
     Ok(())
 }
 
 pub(crate) fn seize(out: &mut Text, cell: &mut Cell, words: &[u8]) -> Result<(), Reason> {
     let [line, s, owner] = only(words, Exactly::<3>)?;
-    answer(
+    answer_in(
         out,
         cell::seize(cell, narrow(line), narrow(s), narrow(owner)),
     );
@@ -62,7 +62,7 @@ pub(crate) fn seize(out: &mut Text, cell: &mut Cell, words: &[u8]) -> Result<(),
 
 pub(crate) fn release(out: &mut Text, cell: &mut Cell, words: &[u8]) -> Result<(), Reason> {
     let [line, s, owner] = only(words, Exactly::<3>)?;
-    answer(
+    answer_in(
         out,
         cell::release(cell, narrow(line), narrow(s), narrow(owner)),
     );
@@ -71,7 +71,7 @@ pub(crate) fn release(out: &mut Text, cell: &mut Cell, words: &[u8]) -> Result<(
 
 pub(crate) fn line(out: &mut Text, cell: &Cell, words: &[u8]) -> Result<(), Reason> {
     let [line, number, direction] = only(words, Exactly::<3>)?;
-    answer(
+    answer_in(
         out,
         onair::line(cell, narrow(line), narrow(number), narrow(direction)),
     );
@@ -80,7 +80,7 @@ pub(crate) fn line(out: &mut Text, cell: &Cell, words: &[u8]) -> Result<(), Reas
 
 pub(crate) fn who(out: &mut Text, cell: &Cell, words: &[u8]) -> Result<(), Reason> {
     let [tn, arfcn, number, direction] = only(words, Exactly::<4>)?;
-    answer(
+    answer_in(
         out,
         onair::who(
             cell,
@@ -98,6 +98,6 @@ pub(crate) fn page(out: &mut Text, cell: &Cell, words: &[u8]) -> Result<(), Reas
     let [number] = only(rest, Exactly::<1>)?;
     let mut digits = Figures::new();
     figures(imsi, &mut digits);
-    answer(out, cell::page(cell, digits.as_slice(), narrow(number)));
+    answer_in(out, cell::page(cell, digits.as_slice(), narrow(number)));
     Ok(())
 }

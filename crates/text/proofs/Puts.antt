@@ -4,12 +4,16 @@ use Rattle.wording.specs.Print.{written}
 use Rattle.wording.proofs.Written.{written-nothing, written-written}
 use Rattle.text.specs.Room.{Buffer, Kept, Put}
 
+-- of one room
+pub and_then : (room : ℕ) (b t u : List ℕ) {b₁ b₂ : List ℕ} → b₁ ≡ written room b t → b₂ ≡ written room b₁ u → b₂ ≡ written room b (t ++ u)
+and_then room b t u e f = f ∙ ap (λ (s : List ℕ). written room s u) e ∙ written-written room b t u
+
 pub put_nothing : (b : Buffer) → Put b b []
 put_nothing b = (sym (written-nothing b.room b.items), (refl, refl))
 
 pub put_both : (a b c : Buffer) (s t : List ℕ) → Put a b s → Put b c t → Put a c (s ++ t)
 put_both a b c s t e f =
-    (f.0 ∙ ap (λ (room : ℕ). written room b.items t) e.1.0 ∙ ap (λ (items : List ℕ). written a.room items t) e.0 ∙ written-written a.room a.items s t, (f.1.0 ∙ e.1.0, f.1.1 ∙ e.1.1))
+    (and_then a.room a.items s t e.0 (f.0 ∙ ap (λ (room : ℕ). written room b.items t) e.1.0), (f.1.0 ∙ e.1.0, f.1.1 ∙ e.1.1))
 
 -- by what the text is
 pub put_as : (a b : Buffer) {s t : List ℕ} → s ≡ t → Put a b s → Put a b t
