@@ -1,6 +1,6 @@
 // `answer_in` at the type that each call gives writes the sentence of that call, and `answer` at such a type and at one that is written elsewhere.
 ghost use Rattle.std.specs.Prelude.{[], ◌∷◌, ◌≡◌};
-ghost use Rattle.wording.specs.Print.{written, Appended};
+ghost use Rattle.wording.specs.Print.{written, spaced, Appended};
 ghost use Rattle.wording.specs.Replies.{answered, numbered_channel_text, channel_text, numbered_reason_text, error_with, error_text, done_text, number_text, hop_text, page_text, split_text, map_text, line_text, who_text, bits_text};
 
 use crate::{Bits, Reply, answer, answer_in, channel_name, error, refused};
@@ -174,14 +174,21 @@ fn number_to(out: &mut ArrayVec<u8, 18>, reply: Result<u32, Refusal>)
     answer(out, reply);
 }
 
+fn printed_to(out: &mut ArrayVec<u8, 18>, n: u32)
+    ensures { out.new.items ≡ written 18 out.old.items (spaced (n ∷ [])) }
+{
+    n.print(out);
+}
+
 #[test]
 fn arrays(rt: HostRuntime) {
     let mut out = ArrayVec::new();
+    printed_to(&mut out, 7);
     number_to(&mut out, Ok(20));
     letter_to(&mut out, Ok(Letter(b'?')));
-    assert_eq!(rt; out.as_slice(), b"ok 20\nok?\n".as_slice());
+    assert_eq!(rt; out.as_slice(), b" 7ok 20\nok?\n".as_slice());
     letter_to(&mut out, Err(Refusal::Maio));
-    assert_eq!(rt; out.as_slice(), b"ok 20\nok?\nrefused ".as_slice());
+    assert_eq!(rt; out.as_slice(), b" 7ok 20\nok?\nrefuse".as_slice());
 }
 
 fn why<const N: usize>(out: &mut ArrayVec<u8, N>, number: u64, reason: Reason)
