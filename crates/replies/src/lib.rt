@@ -119,7 +119,7 @@ impl<'a, B: Room> ReplyIn<B> for Bits<'a> {
     }
 }
 
-// The same of an `ArrayVec` alone: what its type says of its room, one who writes a reply of his own need not show.
+// The same of an `ArrayVec` alone. Its type says what its room is, so one who writes a reply of his own shows only what is written.
 pub trait Reply<const N: usize> {
     ghost text: { Self → List ℕ };
 
@@ -127,7 +127,7 @@ pub trait Reply<const N: usize> {
         ensures { out.new.items ≡ written N out.old.items (text self) };
 }
 
-// Each of the above is one.
+// Whatever is printed in any room is one.
 impl<T: ReplyIn<ArrayVec<u8, N>>, const N: usize> Reply<N> for T {
     ghost text = { T.ReplyIn.text };
 
@@ -136,7 +136,7 @@ impl<T: ReplyIn<ArrayVec<u8, N>>, const N: usize> Reply<N> for T {
     }
 }
 
-// One that is written elsewhere, as `answer_in` takes it.
+// Any of them, as `answer_in` takes it.
 struct Told<T>(T);
 
 impl<T: Reply<N>, const N: usize> ReplyIn<ArrayVec<u8, N>> for Told<T> {

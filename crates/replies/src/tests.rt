@@ -1,9 +1,10 @@
-// `answer_in` at the type that each call gives writes the sentence of that call, and `answer` at such a type and at one that is written elsewhere.
+// `answer_in` at the type that each call gives writes the sentence of that call; `answer` at any such type writes the same, and at one that is written
+// elsewhere its text.
 ghost use Rattle.std.specs.Prelude.{[], ◌∷◌, ◌≡◌};
-ghost use Rattle.wording.specs.Print.{written, spaced, Appended};
+ghost use Rattle.wording.specs.Print.{written, Appended};
 ghost use Rattle.wording.specs.Replies.{answered, numbered_channel_text, channel_text, numbered_reason_text, error_with, error_text, done_text, number_text, hop_text, page_text, split_text, map_text, line_text, who_text, bits_text};
 
-use crate::{Bits, Reply, answer, answer_in, channel_name, error, refused};
+use crate::{Bits, Reply, ReplyIn, answer, answer_in, channel_name, error, refused};
 use answers::Refusal;
 use arrayvec::ArrayVec;
 use clock::Frame;
@@ -168,23 +169,24 @@ fn letter_to(out: &mut ArrayVec<u8, 18>, reply: Result<Letter, Refusal>)
     answer(out, reply);
 }
 
-fn number_to(out: &mut ArrayVec<u8, 18>, reply: Result<u32, Refusal>)
-    ensures { out.new.items ≡ written 18 out.old.items (number_text reply) }
+// Any type that is printed in any room is answered and printed to an array as it is there.
+fn reply_to<T: ReplyIn<ArrayVec<u8, 18>>>(out: &mut ArrayVec<u8, 18>, reply: Result<T, Refusal>)
+    ensures { out.new.items ≡ written 18 out.old.items (answered reply T.ReplyIn.text) }
 {
     answer(out, reply);
 }
 
-fn printed_to(out: &mut ArrayVec<u8, 18>, n: u32)
-    ensures { out.new.items ≡ written 18 out.old.items (spaced (n ∷ [])) }
+fn printed_to<T: ReplyIn<ArrayVec<u8, 18>>>(out: &mut ArrayVec<u8, 18>, reply: T)
+    ensures { out.new.items ≡ written 18 out.old.items (T.ReplyIn.text reply) }
 {
-    n.print(out);
+    reply.print(out);
 }
 
 #[test]
 fn arrays(rt: HostRuntime) {
     let mut out = ArrayVec::new();
-    printed_to(&mut out, 7);
-    number_to(&mut out, Ok(20));
+    printed_to(&mut out, 7u32);
+    reply_to(&mut out, Ok(20u32));
     letter_to(&mut out, Ok(Letter(b'?')));
     assert_eq!(rt; out.as_slice(), b" 7ok 20\nok?\n".as_slice());
     letter_to(&mut out, Err(Refusal::Maio));
